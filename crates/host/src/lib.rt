@@ -1,0 +1,7 @@
+// Hosts: what a master serves. A make says by its behaviour what it means, and shows that it keeps to it.
+mod host;
+mod list_host;
+
+pub use host::Host;
+pub use list_host::ListHost;
+pub use list_host::ListHostHost;

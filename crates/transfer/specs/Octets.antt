@@ -1,0 +1,7 @@
+-- Lists of bytes. Assumes nothing.
+use mathlib.Core.List.{List}
+use Prim.Native.Nat.{ℕ, _<_}
+use lib.ListN.{getD}
+
+abbrev pub Octets : List ℕ → Type 0
+Octets xs = (k : ℕ) → getD xs k 0 < 256
