@@ -5,6 +5,8 @@ ghost use lib.ListN.{length};
 ghost use Rattle.transfer.specs.Octets.{Octets};
 use crate::address::Address;
 
+mod calls;
+
 #[derive(Clone, Copy, PartialEq, Eq, Debug)]
 pub enum Direction {
     Write,

@@ -1,5 +1,9 @@
 // What a host is told of its transfer.
+ghost use mathlib.Core.Path.{_≡_};
 ghost use Prim.Native.Nat.{_≤_};
+ghost use lib.ListN.{length};
+
+mod bytes;
 
 // Legs and bytes count from 0.
 #[derive(Clone, Copy, PartialEq, Eq, Debug)]
@@ -26,6 +30,7 @@ pub struct ReadBytes {
     pub bytes: [u8; 32],
     pub len: u8,
     ghost fits: { len ≤ 32 },
+    ghost room: { length bytes ≡ 32 },
 }
 
 #[derive(Clone, Copy)]

@@ -1,10 +1,8 @@
 // The calls of a draft. A refused call changes nothing.
 ghost use mathlib.Core.Path.{_≡_};
-ghost use Prim.Native.Nat.{_≤_};
-ghost use lib.ListN.{length, take};
 ghost use Rattle.transfer.specs.Drafts.{draft-model, transfer-model, begun, last-set, write-set, read-set, second-begun};
 ghost use Rattle.std.specs.Options.{mapped};
-ghost use Rattle.transfer.specs.Legs.{BodyModel, body-model, LegModel, leg-model, empty-write};
+ghost use Rattle.transfer.specs.Legs.{body-model, leg-model};
 ghost use Rattle.transfer.specs.Refusals.{answer};
 use super::Draft;
 use super::Transfer;
@@ -14,33 +12,6 @@ use crate::leg::Leg;
 use crate::leg::ReadCount;
 use crate::leg::WriteBytes;
 use crate::refusal::Refusal;
-
-impl WriteBytes {
-    fn copy_of(source: &[u8]) -> WriteBytes
-        requires { ⌜ length (now source) ≤ 16 ⌝ }
-        ensures { λ r. ⌜ take (r .len) (r .bytes) ≡ now (source .entry) ⌝ }
-    {
-        let mut bytes = [0; 16];
-        for (i, byte) in source.iter().enumerate() {
-            bytes[i] = *byte;
-        }
-        WriteBytes {
-            bytes,
-            len: source.len() as u8,
-        }
-    }
-}
-
-impl Leg {
-    fn empty_write(address: Address) -> Leg
-        ensures { λ r. ⌜ leg-model r ≡ empty-write (address .number) ⌝ }
-    {
-        Leg {
-            address,
-            body: Body::Write(WriteBytes::copy_of(&[])),
-        }
-    }
-}
 
 impl Draft {
     // One leg, an empty write to the address.

@@ -1,0 +1,12 @@
+// The bus in ticks: what all parts pull gives the levels, the levels give the event, and every master and port steps on it.
+mod octet;
+mod symbol;
+mod wire;
+
+pub use symbol::Symbol;
+pub use wire::Event;
+pub use wire::Latch;
+pub use wire::Levels;
+pub use wire::Pulls;
+pub use wire::Signal;
+pub use wire::Wire;
