@@ -1,3 +1,5 @@
 pub mod Wires
 pub mod Symbols
 pub mod Octets
+pub mod Rooms
+pub mod Cursors

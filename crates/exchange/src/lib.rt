@@ -1,4 +1,5 @@
 // The bus in ticks: what all parts pull gives the levels, the levels give the event, and every master and port steps on it.
+mod cursor;
 mod octet;
 mod symbol;
 mod wire;

@@ -7,7 +7,7 @@ use crate::address::Address;
 
 mod calls;
 
-#[derive(Clone, Copy, PartialEq, Eq, Debug)]
+#[derive(Clone, Copy)]
 pub enum Direction {
     Write,
     Read,

@@ -81,6 +81,18 @@ impl Draft {
 }
 
 impl Transfer {
+    pub fn first(&self) -> Leg
+        ensures { λ r. ⌜ r ≡ now (self .entry) .first ⌝ }
+    {
+        self.first
+    }
+
+    pub fn second(&self) -> Option<Leg>
+        ensures { λ r. ⌜ r ≡ now (self .entry) .second ⌝ }
+    {
+        self.second
+    }
+
     // What stands where no transfer is meant: an empty write to the least address.
     pub fn filler() -> Transfer
         ensures { λ r. ⌜ transfer-model r ≡ begun 8 ⌝ }
