@@ -3,3 +3,4 @@ pub mod Symbols
 pub mod Octets
 pub mod Rooms
 pub mod Cursors
+pub mod Masters

@@ -1,5 +1,6 @@
 // The bus in ticks: what all parts pull gives the levels, the levels give the event, and every master and port steps on it.
 mod cursor;
+mod master;
 mod octet;
 mod symbol;
 mod wire;
