@@ -4,3 +4,4 @@ pub mod Octets
 pub mod Rooms
 pub mod Cursors
 pub mod Masters
+pub mod Ports

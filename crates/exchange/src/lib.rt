@@ -2,6 +2,7 @@
 mod cursor;
 mod master;
 mod octet;
+mod port;
 mod symbol;
 mod wire;
 
