@@ -5,3 +5,6 @@ pub mod Rooms
 pub mod Cursors
 pub mod Masters
 pub mod Ports
+pub mod Banks
+pub mod Buses
+pub mod Parts

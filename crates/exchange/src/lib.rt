@@ -1,5 +1,7 @@
 // The bus in ticks: what all parts pull gives the levels, the levels give the event, and every master and port steps on it.
+mod bank;
 mod cursor;
+mod mark;
 mod master;
 mod octet;
 mod port;

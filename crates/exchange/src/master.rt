@@ -6,6 +6,7 @@ use transfer::ClockPair;
 use transfer::Outcome;
 use transfer::Transfer;
 
+mod served;
 mod steps;
 
 #[derive(Clone, Copy)]
@@ -33,6 +34,7 @@ pub enum Verdict {
     Told(Outcome),
 }
 
+#[derive(Clone, Copy)]
 pub struct MasterState {
     clock: ClockPair,
     arming: Arming,
@@ -41,4 +43,9 @@ pub struct MasterState {
     pulls: Pulls,
     // where a contender is in its transfer; while the master waits it says nothing
     cursor: Cursor,
+}
+
+pub struct Master<H> {
+    state: MasterState,
+    host: H,
 }

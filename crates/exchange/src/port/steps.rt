@@ -1,6 +1,7 @@
 // How a port steps, and what it asks its device.
 ghost use mathlib.Core.Path.{_≡_};
 ghost use Prim.Native.Nat.{ℕ, _<_};
+ghost use Rattle.exchange.specs.Buses.{port-new};
 ghost use Rattle.exchange.specs.Ports.{PortModel, port-model, part, mode-pulls, port-pulls, counts, reads-on, settles, port-step, new-port};
 ghost use Rattle.exchange.specs.declared.port.Mode.the-variants.{Addressing, Writing, Reading};
 use super::Mode;
@@ -48,7 +49,29 @@ impl<D: Device> Port<D> {
         }
     }
 
-    pub fn pulls(&self) -> Pulls
+    // The device, as it stands.
+    pub fn into_device(self) -> D
+        ensures { λ r. ⌜ r ≡ self .device ⌝ }
+    {
+        let Port {
+            address,
+            device,
+            mode,
+            owes_finish,
+            hold,
+        } = self;
+        device
+    }
+
+    pub(crate) fn reset(&mut self)
+        ensures { λ _. ⌜ port-model (D·Device .behaviour) (D·Device .means) (now (self .exit)) ≡ port-new (D·Device .behaviour) (port-model (D·Device .behaviour) (D·Device .means) (now (self .entry))) ⌝ }
+    {
+        self.mode = Mode::Out;
+        self.owes_finish = false;
+        self.hold = 0;
+    }
+
+    pub(crate) fn pulls(&self) -> Pulls
         ensures { λ r. ⌜ r ≡ port-pulls (D·Device .behaviour) (port-model (D·Device .behaviour) (D·Device .means) (now (self .entry))) ⌝ }
     {
         Pulls {
@@ -57,7 +80,7 @@ impl<D: Device> Port<D> {
         }
     }
 
-    pub fn step(&mut self, signal: Signal)
+    pub(crate) fn step(&mut self, signal: Signal)
         ensures { λ _. ⌜ ((h : ℕ) × (h < 256) × (port-model (D·Device .behaviour) (D·Device .means) (now (self .exit)) ≡ port-step (D·Device .behaviour) (port-model (D·Device .behaviour) (D·Device .means) (now (self .entry))) signal h)) ⌝ }
     {
         match (self.mode, signal.event, signal.bit) {

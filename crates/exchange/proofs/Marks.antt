@@ -1,0 +1,24 @@
+-- The marks of a bank of masters: the first master's, and then those of the rest.
+use mathlib.Core.List.{List, [], _∷_, _++_, append-nil}
+use mathlib.Core.Path.{_≡_, refl, sym, ap, _∙_}
+use Prim.Native.Nat.{ℕ, zero, suc, _<_, _-_}
+use native.Mathlib.Omega.{arith}
+use lib.ListN.{length, take, drop, set}
+use borrow.Rule.Slice.PartMut.{putMid}
+use Rattle.std.proofs.shelf.Lists.{take-all}
+use Rattle.exchange.specs.declared.mark.Mark.{Mark}
+use Rattle.exchange.specs.Buses.{over}
+
+drop-all : (xs : List Mark) → drop (length xs) xs ≡ []
+drop-all [] = refl
+drop-all (x ∷ xs) = drop-all xs
+
+pub first-over : (ms ys xs : List Mark) (m k : Mark) → 0 < length ms → m ≡ k →
+    ys ≡ over xs (take (length (set ms 0 m) - 1) (drop 1 (set ms 0 m))) →
+    putMid 1 (length (set ms 0 m) - 1) (set ms 0 m) ys ≡ over (k ∷ xs) ms
+first-over [] ys xs m k h e q = absurd (omega arith)
+first-over (x ∷ rest) ys xs m k h e q =
+    let n : suc (length rest) - 1 ≡ length rest = omega arith in
+    let all = take-all (length rest) rest (omega arith) in
+    let tail : ys ≡ over xs rest = q ∙ rw (n, all) in
+    rw (n, drop-all rest, append-nil, tail, e)

@@ -1,0 +1,97 @@
+-- A bus, and what an arm and a tick make of it. Assumes nothing.
+use mathlib.Core.Bool.{Bool, true, false, not, cond, _&&_, _||_}
+use mathlib.Core.List.{List, [], _∷_}
+use Prim.Native.Nat.{ℕ, zero, suc, _<_}
+use lib.ListN.{replicate}
+use Rattle.std.specs.declared.result.Result.{Result}
+use Rattle.std.specs.declared.result.Result.the-variants.{Ok, Err}
+use Rattle.device.specs.Behaviours.{Behaviour}
+use Rattle.host.specs.Behaviours.{HostBehaviour}
+use Rattle.transfer.specs.Outcomes.{OutcomeModel}
+use Rattle.exchange.specs.declared.mark.Mark.{Mark}
+use Rattle.exchange.specs.declared.mark.Mark.the-variants.{Quiet, Told, Lost}
+use Rattle.exchange.specs.declared.wire.Event.{Event}
+use Rattle.exchange.specs.declared.wire.Levels.{Levels}
+use Rattle.exchange.specs.declared.wire.Pulls.{Pulls}
+use Rattle.exchange.specs.declared.wire.Signal.{Signal}
+use Rattle.exchange.specs.declared.wire.Wire.{Wire}
+use Rattle.exchange.specs.Banks.{Bank, each, listed}
+use Rattle.exchange.specs.Masters.{ArmingModel, unarmed, armed, MasterModel, VerdictModel, quiet, lost, told, master-step, arm-master, new-master}
+use Rattle.exchange.specs.Ports.{PortModel, port-pulls, port-step, new-port}
+use Rattle.exchange.specs.Wires.{no-pulls, both, levels-of, event, signal, wire-after, quiet-wire}
+
+-- a master and the meaning of its host
+pub record Served (h : HostBehaviour) : Type 0 where
+  pub master : MasterModel
+  pub meaning : h .Meaning
+
+abbrev pub is-armed : ArmingModel → Bool
+is-armed unarmed = false
+is-armed (armed t) = true
+
+abbrev pub mark-of : VerdictModel → Mark
+mark-of quiet = Quiet
+mark-of lost = Lost
+mark-of (told o) = Told
+
+module _ (h : HostBehaviour) where
+  abbrev pub hears : h .Meaning → VerdictModel → h .Meaning
+  hears m quiet = m
+  hears m lost = m
+  hears m (told o) = h .told m o
+
+  -- a master steps, and its host is told what comes of it
+  abbrev pub served-step : Signal → Served h → Served h
+  served-step s x = let y = master-step (x .master) s in record { master = y .0; meaning = hears (x .meaning) (y .1) }
+
+  abbrev pub served-mark : Signal → Served h → Mark
+  served-mark s x = mark-of (master-step (x .master) s .1)
+
+  abbrev pub served-pulls : Served h → Pulls
+  served-pulls x = x .master .pulls
+
+  abbrev pub served-armed : Served h → Bool
+  served-armed x = is-armed (x .master .arming)
+
+  abbrev pub served-new : Served h → Served h
+  served-new x = record { master = new-master (x .master .low) (x .master .high); meaning = x .meaning }
+
+  abbrev pub with-master : Served h → Result (Unit {0}) ℕ × MasterModel → Result (Unit {0}) ℕ × Served h
+  with-master x a = (a .0, record { master = a .1; meaning = x .meaning })
+
+  abbrev pub served-arm : Served h → Result (Unit {0}) ℕ × Served h
+  served-arm x = with-master x (arm-master (x .master) (h .want (x .meaning)))
+
+abbrev pub port-new : (b : Behaviour) → PortModel b → PortModel b
+port-new b p = new-port b (p .address) (p .meaning)
+
+abbrev pub all-pulls : List Pulls → Pulls
+all-pulls [] = no-pulls
+all-pulls (p ∷ ps) = both p (all-pulls ps)
+
+abbrev pub any-of : List Bool → Bool
+any-of [] = false
+any-of (b ∷ bs) = b || any-of bs
+
+-- master n, counted from 0; there is none at the end of the bank
+abbrev pub arm-nth : (hs : List HostBehaviour) → Bank Served hs → ℕ → Result (Unit {0}) ℕ × Bank Served hs
+arm-nth [] p n = (Err 5, tt)
+arm-nth (h ∷ hs) p zero = let a = served-arm h (p .0) in (a .0, (a .1, p .1))
+arm-nth (h ∷ hs) p (suc n) = let a = arm-nth hs (p .1) n in (a .0, (p .0, a .1))
+
+-- an answer to hold
+abbrev pub Held : Type 0
+Held = (n : ℕ) × (n < 256)
+
+abbrev pub Holds : List Behaviour → Type 0
+Holds ds = Bank (λ d. Held) ds
+
+abbrev pub ports-step : (ds : List Behaviour) → Bank PortModel ds → Signal → Holds ds → Bank PortModel ds
+ports-step [] p s hs = tt
+ports-step (d ∷ ds) p s hs = (port-step d (p .0) s (hs .0 .0), ports-step ds (p .1) s (hs .1))
+
+-- the marks of the masters there are, over those of none
+abbrev pub over : List Mark → List Mark → List Mark
+over [] ys = ys
+over (x ∷ xs) [] = []
+over (x ∷ xs) (y ∷ ys) = x ∷ over xs ys
