@@ -22,3 +22,12 @@ first-over (x ∷ rest) ys xs m k h e q =
     let all = take-all (length rest) rest (omega arith) in
     let tail : ys ≡ over xs rest = q ∙ rw (n, all) in
     rw (n, drop-all rest, append-nil, tail, e)
+
+nothing-over : (xs : List Mark) → over xs [] ≡ []
+nothing-over [] = refl
+nothing-over (x ∷ xs) = refl
+
+-- where there is no place
+pub none-over : (ms ys xs : List Mark) (k : Mark) → length ms ≡ 0 → ys ≡ over xs ms → ys ≡ over (k ∷ xs) ms
+none-over [] ys xs k h q = q ∙ nothing-over xs
+none-over (m ∷ ms) ys xs k h q = absurd (omega arith)

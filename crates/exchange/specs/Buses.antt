@@ -8,6 +8,7 @@ use Rattle.std.specs.declared.result.Result.the-variants.{Ok, Err}
 use Rattle.device.specs.Behaviours.{Behaviour}
 use Rattle.host.specs.Behaviours.{HostBehaviour}
 use Rattle.transfer.specs.Outcomes.{OutcomeModel}
+use Rattle.exchange.specs.declared.bus.Tick.{Tick}
 use Rattle.exchange.specs.declared.mark.Mark.{Mark}
 use Rattle.exchange.specs.declared.mark.Mark.the-variants.{Quiet, Told, Lost}
 use Rattle.exchange.specs.declared.wire.Event.{Event}
@@ -95,3 +96,47 @@ abbrev pub over : List Mark → List Mark → List Mark
 over [] ys = ys
 over (x ∷ xs) [] = []
 over (x ∷ xs) (y ∷ ys) = x ∷ over xs ys
+
+module _ (hs : List HostBehaviour) (ds : List Behaviour) where
+  pub record BusModel : Type 0 where
+    pub wire : Wire
+    pub masters : Bank Served hs
+    pub ports : Bank PortModel ds
+
+  abbrev pub made : Bank Served hs → Bank PortModel ds → BusModel
+  made ms ps = record { wire = quiet-wire; masters = each served-new hs ms; ports = each port-new ds ps }
+
+  abbrev pub with-masters : BusModel → Result (Unit {0}) ℕ × Bank Served hs → Result (Unit {0}) ℕ × BusModel
+  with-masters u a = (a .0, record { wire = u .wire; masters = a .1; ports = u .ports })
+
+  abbrev pub arm-at : BusModel → ℕ → Result (Unit {0}) ℕ × BusModel
+  arm-at u n = with-masters u (arm-nth hs (u .masters) n)
+
+  -- the levels of the next tick
+  abbrev pub levels-at : BusModel → Levels
+  levels-at u = levels-of (both (all-pulls (listed served-pulls hs (u .masters))) (all-pulls (listed port-pulls ds (u .ports))))
+
+  -- what the levels v make of the bus, where the ports' questions for hold are answered by a
+  abbrev pub after-levels : BusModel → Levels → Holds ds → BusModel
+  after-levels u v a = record {
+    wire = wire-after (u .wire) v;
+    masters = each (λ h. served-step h (signal (u .wire) v)) hs (u .masters);
+    ports = ports-step ds (u .ports) (signal (u .wire) v) a;
+  }
+
+  abbrev pub marks-at : BusModel → Levels → List Mark
+  marks-at u v = over (listed (λ h. served-mark h (signal (u .wire) v)) hs (u .masters)) (replicate 8 Quiet)
+
+  abbrev pub shown-at : BusModel → Levels → Tick
+  shown-at u v = record { levels = v; event = event (u .wire .last) v; marks = marks-at u v }
+
+  -- one tick: what it shows, and the bus after it
+  abbrev pub tick-at : BusModel → Holds ds → Tick × BusModel
+  tick-at u a = (shown-at u (levels-at u), after-levels u (levels-at u) a)
+
+  abbrev pub any-armed : BusModel → Bool
+  any-armed u = any-of (listed served-armed hs (u .masters))
+
+  -- the bus is free and no master is armed
+  abbrev pub is-at-rest : BusModel → Bool
+  is-at-rest u = not (u .wire .busy) && not (any-armed u)

@@ -1,8 +1,6 @@
 // Banks of masters and of ports: one part and the rest, so that parts of any makes stand side by side.
 ghost use mathlib.Core.List.{List, [], _∷_};
 ghost use mathlib.Core.Path.{_≡_};
-ghost use Prim.Native.Nat.{_≤_};
-ghost use lib.ListN.{length};
 ghost use Rattle.device.specs.Behaviours.{Behaviour};
 ghost use Rattle.host.specs.Behaviours.{HostBehaviour};
 ghost use Rattle.transfer.specs.Refusals.{answer};
@@ -41,9 +39,8 @@ pub trait Masters {
     fn arm(&mut self, master: usize) -> Result<(), Refusal>
         ensures { λ r. ⌜ (answer (λ u. u) r, stand (now (self .exit))) ≡ arm-nth hosts (stand (now (self .entry))) master ⌝ };
 
-    // Steps every master, and writes its mark to its place.
+    // Steps every master, and writes its mark to its place, as far as there are places.
     fn step(&mut self, signal: Signal, marks: &mut [Mark])
-        requires { ⌜ length hosts ≤ length (now marks) ⌝ }
         ensures after { λ _. ⌜ stand (now (self .exit)) ≡ each (λ h. served-step h signal) hosts (stand (now (self .entry))) ⌝ }
         ensures marks { λ _. ⌜ now (marks .exit) ≡ over (listed (λ h. served-mark h signal) hosts (stand (now (self .entry)))) (now (marks .entry)) ⌝ };
 }
@@ -127,8 +124,13 @@ pub impl<H: Host, B: Masters> Masters for (Master<H>, B) as PairMasters {
     }
 
     fn step(&mut self, signal: Signal, marks: &mut [Mark]) {
-        marks[0] = self.0.step(signal);
-        self.1.step(signal, &mut marks[1..]);
+        let mark = self.0.step(signal);
+        if marks.len() == 0 {
+            self.1.step(signal, marks);
+        } else {
+            marks[0] = mark;
+            self.1.step(signal, &mut marks[1..]);
+        }
     }
 }
 
