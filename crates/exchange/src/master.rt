@@ -34,7 +34,7 @@ pub enum Verdict {
     Told(Outcome),
 }
 
-#[derive(Clone, Copy)]
+#[derive(Drop)]
 pub struct MasterState {
     clock: ClockPair,
     arming: Arming,

@@ -12,14 +12,14 @@ pub enum Symbol {
 }
 
 impl Symbol {
-    pub fn of_bit(bit: bool) -> Symbol
+    pub(crate) fn of_bit(bit: bool) -> Symbol
         ensures { λ r. ⌜ r ≡ bit-symbol bit ⌝ }
     {
         if bit { Symbol::One } else { Symbol::Zero }
     }
 
     // Whether SDA is pulled for it from the fall on.
-    pub fn pulls_sda(self) -> bool
+    pub(crate) fn pulls_sda(self) -> bool
         ensures { λ r. ⌜ r ≡ pulls-sda self ⌝ }
     {
         match self {

@@ -54,7 +54,7 @@ pub struct Latch {
 }
 
 impl Pulls {
-    pub fn none() -> Pulls
+    pub(crate) fn none() -> Pulls
         ensures { λ r. ⌜ r ≡ no-pulls ⌝ }
     {
         Pulls {
@@ -63,7 +63,7 @@ impl Pulls {
         }
     }
 
-    pub fn or(self, other: Pulls) -> Pulls
+    pub(crate) fn or(self, other: Pulls) -> Pulls
         ensures { λ r. ⌜ r ≡ both self other ⌝ }
     {
         Pulls {
@@ -73,7 +73,7 @@ impl Pulls {
     }
 
     // A line is high where nobody pulls it.
-    pub fn levels(self) -> Levels
+    pub(crate) fn levels(self) -> Levels
         ensures { λ r. ⌜ r ≡ levels-of self ⌝ }
     {
         Levels {
@@ -84,7 +84,7 @@ impl Pulls {
 }
 
 impl Event {
-    pub fn between(last: Levels, now: Levels) -> Event
+    pub(crate) fn between(last: Levels, now: Levels) -> Event
         ensures { λ r. ⌜ r ≡ event last «now» ⌝ }
     {
         match (last.scl, now.scl) {
@@ -129,7 +129,7 @@ impl Latch {
 
 impl Wire {
     // Before the first tick both lines count as high.
-    pub fn new() -> Wire
+    pub(crate) fn new() -> Wire
         ensures { λ r. ⌜ r ≡ quiet-wire ⌝ }
     {
         Wire {
@@ -143,7 +143,7 @@ impl Wire {
     }
 
     // The lines take these levels.
-    pub fn step(&mut self, levels: Levels) -> Signal
+    pub(crate) fn step(&mut self, levels: Levels) -> Signal
         ensures answer { λ r. ⌜ r ≡ signal (now (self .entry)) levels ⌝ }
         ensures after { λ _. ⌜ now (self .exit) ≡ wire-after (now (self .entry)) levels ⌝ }
     {

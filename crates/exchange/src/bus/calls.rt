@@ -64,7 +64,7 @@ impl<M: Masters, P: Ports> Bus<M, P> {
         ensures { λ r. ⌜ r ≡ (self .masters, self .ports) ⌝ }
     {
         let Bus {
-            wire,
+            wire: _,
             masters,
             ports,
         } = self;

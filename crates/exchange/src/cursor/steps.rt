@@ -44,13 +44,14 @@ impl Rest {
 }
 
 impl Cursor {
-    pub fn new(transfer: Transfer) -> Cursor
+    pub(crate) fn new(transfer: Transfer) -> Cursor
         ensures { λ r. ⌜ cursor-model r ≡ opening-of (transfer-model transfer) ⌝ }
     {
+        let (leg, next) = transfer.legs();
         Cursor {
             at: At::InLeg,
-            leg: transfer.first(),
-            rest: Rest::First(transfer.second()),
+            leg,
+            rest: Rest::First(next),
             byte: 0,
             bit: 0,
             value: 0,
@@ -81,7 +82,7 @@ impl Cursor {
         }
     }
 
-    pub fn symbol(&self) -> Symbol
+    pub(crate) fn symbol(&self) -> Symbol
         ensures { λ r. ⌜ r ≡ symbol-of (cursor-model (now (self .entry)) .play) ⌝ }
     {
         match self.at {
@@ -102,7 +103,7 @@ impl Cursor {
     }
 
     // Moves on, once `heard` was the level under the symbol shown.
-    pub fn advance(&mut self, heard: bool)
+    pub(crate) fn advance(&mut self, heard: bool)
         ensures { λ _. ⌜ cursor-model (now (self .exit)) ≡ cursor-next (cursor-model (now (self .entry))) heard ⌝ }
     {
         match self.at {
@@ -175,7 +176,7 @@ impl Cursor {
         }
     }
 
-    pub fn outcome(&self) -> Outcome
+    pub(crate) fn outcome(&self) -> Outcome
         ensures { λ r. ⌜ outcome-model r ≡ outcome-of (cursor-model (now (self .entry))) ⌝ }
     {
         match self.kind {

@@ -29,14 +29,8 @@ impl<H: Host> Master<H> {
     pub fn into_host(self) -> H
         ensures { λ r. ⌜ r ≡ self .host ⌝ }
     {
-        let Master { state, host } = self;
+        let Master { state: _, host } = self;
         host
-    }
-
-    pub fn host(&self) -> &H
-        ensures { λ r. ⌜ now r ≡ now (self .entry) .host ⌝ }
-    {
-        &self.host
     }
 
     pub(crate) fn pulls(&self) -> Pulls

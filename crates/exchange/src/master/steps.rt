@@ -16,7 +16,7 @@ use transfer::ClockPair;
 use transfer::Transfer;
 
 impl MasterState {
-    pub fn new(clock: ClockPair) -> MasterState
+    pub(crate) fn new(clock: ClockPair) -> MasterState
         ensures { λ r. ⌜ master-model r ≡ new-master (clock .low) (clock .high) ⌝ }
     {
         MasterState {
@@ -29,7 +29,7 @@ impl MasterState {
         }
     }
 
-    pub fn step(&mut self, signal: Signal) -> Verdict
+    pub(crate) fn step(&mut self, signal: Signal) -> Verdict
         ensures { λ r. ⌜ (master-model (now (self .exit)), verdict-model r) ≡ master-step (master-model (now (self .entry))) signal ⌝ }
     {
         match (self.stage, signal.event) {

@@ -54,11 +54,11 @@ impl<D: Device> Port<D> {
         ensures { λ r. ⌜ r ≡ self .device ⌝ }
     {
         let Port {
-            address,
+            address: _,
             device,
-            mode,
-            owes_finish,
-            hold,
+            mode: _,
+            owes_finish: _,
+            hold: _,
         } = self;
         device
     }

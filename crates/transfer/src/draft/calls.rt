@@ -81,16 +81,10 @@ impl Draft {
 }
 
 impl Transfer {
-    pub fn first(&self) -> Leg
-        ensures { λ r. ⌜ r ≡ now (self .entry) .first ⌝ }
+    pub fn legs(&self) -> (Leg, Option<Leg>)
+        ensures { λ r. ⌜ r ≡ (now (self .entry) .first, now (self .entry) .second) ⌝ }
     {
-        self.first
-    }
-
-    pub fn second(&self) -> Option<Leg>
-        ensures { λ r. ⌜ r ≡ now (self .entry) .second ⌝ }
-    {
-        self.second
+        (self.first, self.second)
     }
 
     // What stands where no transfer is meant: an empty write to the least address.

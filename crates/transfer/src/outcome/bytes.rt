@@ -2,14 +2,13 @@
 ghost use mathlib.Core.List.{[], _∷_, _++_};
 ghost use mathlib.Core.Path.{_≡_};
 ghost use Prim.Native.Nat.{_<_, _+_};
-ghost use lib.ListN.{length};
 ghost use Rattle.transfer.specs.Outcomes.{read-bytes};
 use super::ReadBytes;
 
 impl ReadBytes {
     pub fn new() -> ReadBytes
-        ensures { λ r. ⌜ read-bytes r ≡ [] ⌝ }
-        ensures { λ r. ⌜ r .len ≡ 0 ⌝ }
+        ensures bytes { λ r. ⌜ read-bytes r ≡ [] ⌝ }
+        ensures len { λ r. ⌜ r .len ≡ 0 ⌝ }
     {
         ReadBytes {
             bytes: [0; 32],
