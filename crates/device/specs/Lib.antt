@@ -1,2 +1,4 @@
 pub mod Behaviours
 pub mod RegisterFiles
+pub mod EventQueues
+pub mod BusyLayers

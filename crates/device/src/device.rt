@@ -1,5 +1,6 @@
 // The trait of every device: four steps, and the open question how long to hold the clock.
 ghost use mathlib.Core.Path.{_≡_};
+ghost use Prim.Native.Nat.{ℕ};
 ghost use Rattle.device.specs.Behaviours.{Behaviour};
 use transfer::Direction;
 
@@ -7,6 +8,9 @@ pub trait Device {
     ghost behaviour: { Behaviour };
 
     ghost means: { Self → behaviour .Meaning };
+
+    // What hold may answer, where a make says more than that it is a byte. A bus uses nothing of it.
+    ghost holds: { Self → ℕ → Type 0 } = { λ _ _. Unit {0} };
 
     fn select(&mut self, direction: Direction) -> bool
         ensures { λ r. ⌜ (r, means (now (self .exit))) ≡ behaviour .select (means (now (self .entry))) direction ⌝ };
@@ -20,7 +24,8 @@ pub trait Device {
     fn finish(&mut self)
         ensures { λ _. ⌜ means (now (self .exit)) ≡ behaviour .finish (means (now (self .entry))) ⌝ };
 
-    // For how many ticks to hold the clock low. The answer is free; the meaning stays.
+    // For how many ticks to hold the clock low. The meaning does not say, and stays.
     fn hold(&mut self) -> u8
-        ensures { λ _. ⌜ means (now (self .exit)) ≡ means (now (self .entry)) ⌝ };
+        ensures answer { λ r. ⌜ holds (now (self .entry)) r ⌝ }
+        ensures same { λ _. ⌜ means (now (self .exit)) ≡ means (now (self .entry)) ⌝ };
 }

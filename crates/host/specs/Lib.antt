@@ -1,2 +1,3 @@
 pub mod Behaviours
 pub mod ListHosts
+pub mod PollHosts

@@ -1,7 +1,7 @@
 -- An outcome: its kind, and the bytes read. Assumes nothing.
 use mathlib.Core.List.{List}
-use Prim.Native.Nat.{ℕ}
-use lib.ListN.{take}
+use Prim.Native.Nat.{ℕ, _-_}
+use lib.ListN.{length, getD, take}
 use Rattle.transfer.specs.declared.outcome.Outcome.{Outcome}
 use Rattle.transfer.specs.declared.outcome.OutcomeKind.{OutcomeKind}
 use Rattle.transfer.specs.declared.outcome.ReadBytes.{ReadBytes}
@@ -12,6 +12,10 @@ pub record OutcomeModel : Type 0 where
 
 abbrev pub read-bytes : ReadBytes → List ℕ
 read-bytes r = take (r .len) (r .bytes)
+
+-- the last byte read; none counts as 0
+abbrev pub last-byte : List ℕ → ℕ
+last-byte xs = getD xs (length xs - 1) 0
 
 abbrev pub outcome-model : Outcome → OutcomeModel
 outcome-model o = record { kind = o .kind; bytes = read-bytes (o .read) }

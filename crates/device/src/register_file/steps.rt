@@ -28,6 +28,8 @@ pub impl Device for RegisterFile as RegisterFileDevice {
 
     ghost means = { registers };
 
+    ghost holds = { λ _ h. h ≡ 0 };
+
     fn select(&mut self, direction: Direction) -> bool {
         match direction {
             Direction::Write => self.awaits_pointer = true,
@@ -58,10 +60,7 @@ pub impl Device for RegisterFile as RegisterFileDevice {
 
     fn finish(&mut self) {}
 
-    fn hold(&mut self) -> u8
-        ensures same { λ _. ⌜ registers (now (self .exit)) ≡ registers (now (self .entry)) ⌝ }
-        ensures value { λ r. ⌜ r ≡ 0 ⌝ }
-    {
+    fn hold(&mut self) -> u8 {
         0
     }
 }

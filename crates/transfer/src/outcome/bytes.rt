@@ -2,7 +2,7 @@
 ghost use mathlib.Core.List.{[], _∷_, _++_};
 ghost use mathlib.Core.Path.{_≡_};
 ghost use Prim.Native.Nat.{_<_, _+_};
-ghost use Rattle.transfer.specs.Outcomes.{read-bytes};
+ghost use Rattle.transfer.specs.Outcomes.{read-bytes, last-byte};
 use super::ReadBytes;
 
 impl ReadBytes {
@@ -29,5 +29,16 @@ impl ReadBytes {
         ensures { λ r. ⌜ now r ≡ read-bytes (now (self .entry)) ⌝ }
     {
         &self.bytes[0..self.len as usize]
+    }
+
+    // The last byte; none counts as 0.
+    pub fn last_or_zero(&self) -> u8
+        ensures { λ r. ⌜ r ≡ last-byte (read-bytes (now (self .entry))) ⌝ }
+    {
+        if self.len == 0 {
+            0
+        } else {
+            self.bytes[self.len as usize - 1]
+        }
     }
 }
