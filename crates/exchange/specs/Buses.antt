@@ -7,7 +7,8 @@ use Rattle.std.specs.declared.result.Result.{Result}
 use Rattle.std.specs.declared.result.Result.the-variants.{Ok, Err}
 use Rattle.device.specs.Behaviours.{Behaviour}
 use Rattle.host.specs.Behaviours.{HostBehaviour}
-use Rattle.transfer.specs.Outcomes.{OutcomeModel}
+use Rattle.std.specs.Options.{mapped}
+use Rattle.transfer.specs.Drafts.{transfer-model}
 use Rattle.exchange.specs.declared.bus.Tick.{Tick}
 use Rattle.exchange.specs.declared.mark.Mark.{Mark}
 use Rattle.exchange.specs.declared.mark.Mark.the-variants.{Quiet, Told, Lost}
@@ -19,34 +20,35 @@ use Rattle.exchange.specs.declared.wire.Wire.{Wire}
 use Rattle.exchange.specs.Banks.{Bank, each, listed}
 use Rattle.exchange.specs.Masters.{ArmingModel, unarmed, armed, MasterModel, VerdictModel, quiet, lost, told, master-step, arm-master, new-master}
 use Rattle.exchange.specs.Ports.{PortModel, port-pulls, port-step, new-port}
+use Rattle.exchange.specs.Scripts.{transfers}
 use Rattle.exchange.specs.Wires.{no-pulls, both, levels-of, event, signal, wire-after, quiet-wire}
 
 -- a master and the meaning of its host
 pub record Served (h : HostBehaviour) : Type 0 where
-  pub master : MasterModel
+  pub master : MasterModel transfers
   pub meaning : h .Meaning
 
-abbrev pub is-armed : ArmingModel → Bool
+abbrev pub is-armed : ArmingModel transfers → Bool
 is-armed unarmed = false
 is-armed (armed t) = true
 
-abbrev pub mark-of : VerdictModel → Mark
+abbrev pub mark-of : VerdictModel transfers → Mark
 mark-of quiet = Quiet
 mark-of lost = Lost
 mark-of (told o) = Told
 
 module _ (h : HostBehaviour) where
-  abbrev pub hears : h .Meaning → VerdictModel → h .Meaning
+  abbrev pub hears : h .Meaning → VerdictModel transfers → h .Meaning
   hears m quiet = m
   hears m lost = m
   hears m (told o) = h .told m o
 
   -- a master steps, and its host is told what comes of it
   abbrev pub served-step : Signal → Served h → Served h
-  served-step s x = let y = master-step (x .master) s in record { master = y .0; meaning = hears (x .meaning) (y .1) }
+  served-step s x = let y = master-step transfers (x .master) s in record { master = y .0; meaning = hears (x .meaning) (y .1) }
 
   abbrev pub served-mark : Signal → Served h → Mark
-  served-mark s x = mark-of (master-step (x .master) s .1)
+  served-mark s x = mark-of (master-step transfers (x .master) s .1)
 
   abbrev pub served-pulls : Served h → Pulls
   served-pulls x = x .master .pulls
@@ -55,13 +57,13 @@ module _ (h : HostBehaviour) where
   served-armed x = is-armed (x .master .arming)
 
   abbrev pub served-new : Served h → Served h
-  served-new x = record { master = new-master (x .master .low) (x .master .high); meaning = x .meaning }
+  served-new x = record { master = new-master transfers (x .master .low) (x .master .high); meaning = x .meaning }
 
-  abbrev pub with-master : Served h → Result (Unit {0}) ℕ × MasterModel → Result (Unit {0}) ℕ × Served h
+  abbrev pub with-master : Served h → Result (Unit {0}) ℕ × MasterModel transfers → Result (Unit {0}) ℕ × Served h
   with-master x a = (a .0, record { master = a .1; meaning = x .meaning })
 
   abbrev pub served-arm : Served h → Result (Unit {0}) ℕ × Served h
-  served-arm x = with-master x (arm-master (x .master) (h .want (x .meaning)))
+  served-arm x = with-master x (arm-master transfers (x .master) (mapped transfer-model (h .want (x .meaning))))
 
 abbrev pub port-new : (b : Behaviour) → PortModel b → PortModel b
 port-new b p = new-port b (p .address) (p .meaning)

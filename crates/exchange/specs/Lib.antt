@@ -3,6 +3,7 @@ pub mod Symbols
 pub mod Octets
 pub mod Rooms
 pub mod Cursors
+pub mod Scripts
 pub mod Masters
 pub mod Ports
 pub mod Banks

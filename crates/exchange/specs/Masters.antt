@@ -7,9 +7,8 @@ use Rattle.std.specs.declared.option.Option.{Option}
 use Rattle.std.specs.declared.option.Option.the-variants.{Some, None}
 use Rattle.std.specs.declared.result.Result.{Result}
 use Rattle.std.specs.declared.result.Result.the-variants.{Ok, Err}
-use Rattle.transfer.specs.declared.draft.Transfer.{Transfer}
-use Rattle.transfer.specs.Drafts.{TransferModel, transfer-model}
-use Rattle.transfer.specs.Outcomes.{OutcomeModel, outcome-model}
+use Rattle.transfer.specs.Drafts.{transfer-model}
+use Rattle.transfer.specs.Outcomes.{outcome-model}
 use Rattle.exchange.specs.declared.master.Arming.{Arming}
 use Rattle.exchange.specs.declared.master.Arming.the-variants.{Idle, Armed}
 use Rattle.exchange.specs.declared.master.MasterState.{MasterState}
@@ -23,134 +22,136 @@ use Rattle.exchange.specs.declared.wire.Event.{Event}
 use Rattle.exchange.specs.declared.wire.Event.the-variants.{Rise, Fall, Start, Stop, SteadyHigh, SteadyLow}
 use Rattle.exchange.specs.declared.wire.Pulls.{Pulls}
 use Rattle.exchange.specs.declared.wire.Signal.{Signal}
-use Rattle.exchange.specs.Cursors.{CursorModel, cursor-model, opening-of, symbol-of, cursor-next, outcome-of}
+use Rattle.exchange.specs.Cursors.{CursorModel, cursor-model}
+use Rattle.exchange.specs.Scripts.{Script, transfers}
 use Rattle.exchange.specs.Symbols.{pulls-sda}
 use Rattle.exchange.specs.Wires.{no-pulls}
 
-pub data ArmingModel : Type 0 where
-  unarmed : ArmingModel
-  armed : TransferModel → ArmingModel
+module _ (W : Script) where
+  pub data ArmingModel : Type 0 where
+    unarmed : ArmingModel
+    armed : W .Task → ArmingModel
 
--- no contender, or lost; before the first fall; showing a symbol; SDA let go for the stop in the last tick
-pub data StageModel : Type 0 where
-  waiting : StageModel
-  opening : CursorModel → StageModel
-  showing : Symbol → CursorModel → StageModel
-  ending : CursorModel → StageModel
+  -- no contender, or lost; before the first fall; showing a symbol; SDA let go for the stop in the last tick
+  pub data StageModel : Type 0 where
+    waiting : StageModel
+    opening : W .Cursor → StageModel
+    showing : Symbol → W .Cursor → StageModel
+    ending : W .Cursor → StageModel
 
-pub record MasterModel : Type 0 where
-  pub low : ℕ
-  pub high : ℕ
-  pub arming : ArmingModel
-  pub stage : StageModel
-  pub count : ℕ
-  pub pulls : Pulls
+  pub record MasterModel : Type 0 where
+    pub low : ℕ
+    pub high : ℕ
+    pub arming : ArmingModel
+    pub stage : StageModel
+    pub count : ℕ
+    pub pulls : Pulls
 
-pub data VerdictModel : Type 0 where
-  quiet : VerdictModel
-  lost : VerdictModel
-  told : OutcomeModel → VerdictModel
+  pub data VerdictModel : Type 0 where
+    quiet : VerdictModel
+    lost : VerdictModel
+    told : W .Outcome → VerdictModel
 
-abbrev pub new-master : ℕ → ℕ → MasterModel
-new-master low high = record { low = low; high = high; arming = unarmed; stage = waiting; count = 0; pulls = no-pulls }
+  abbrev pub new-master : ℕ → ℕ → MasterModel
+  new-master low high = record { low = low; high = high; arming = unarmed; stage = waiting; count = 0; pulls = no-pulls }
 
-abbrev pub to : MasterModel → StageModel → ℕ → Bool → Bool → MasterModel
-to m s n scl sda = record { low = m .low; high = m .high; arming = m .arming; stage = s; count = n; pulls = record { scl = scl; sda = sda } }
+  abbrev pub to : MasterModel → StageModel → ℕ → Bool → Bool → MasterModel
+  to m s n scl sda = record { low = m .low; high = m .high; arming = m .arming; stage = s; count = n; pulls = record { scl = scl; sda = sda } }
 
--- a loser lets go of both lines, stays armed and waits
-abbrev pub loses : MasterModel → MasterModel × VerdictModel
-loses m = (to m waiting 0 false false, lost)
+  -- a loser lets go of both lines, stays armed and waits
+  abbrev pub loses : MasterModel → MasterModel × VerdictModel
+  loses m = (to m waiting 0 false false, lost)
 
-abbrev pub stays : MasterModel → MasterModel × VerdictModel
-stays m = (m, quiet)
+  abbrev pub stays : MasterModel → MasterModel × VerdictModel
+  stays m = (m, quiet)
 
--- its host is told, and it is disarmed
-abbrev pub tells : MasterModel → CursorModel → MasterModel × VerdictModel
-tells m c = (new-master (m .low) (m .high), told (outcome-of c))
+  -- its host is told, and it is disarmed
+  abbrev pub tells : MasterModel → W .Cursor → MasterModel × VerdictModel
+  tells m c = (new-master (m .low) (m .high), told (W .outcome c))
 
-abbrev pub contends : MasterModel → ArmingModel → MasterModel × VerdictModel
-contends m unarmed = stays m
-contends m (armed t) = (to m (opening (opening-of t)) 0 false true, quiet)
+  abbrev pub contends : MasterModel → ArmingModel → MasterModel × VerdictModel
+  contends m unarmed = stays m
+  contends m (armed t) = (to m (opening (W .begin t)) 0 false true, quiet)
 
--- at a fall SCL is pulled and the symbol shown
-abbrev pub shows : MasterModel → CursorModel → MasterModel × VerdictModel
-shows m c = (to m (showing (symbol-of (c .play)) c) (m .low) true (pulls-sda (symbol-of (c .play))), quiet)
+  -- at a fall SCL is pulled and the symbol shown
+  abbrev pub shows : MasterModel → W .Cursor → MasterModel × VerdictModel
+  shows m c = (to m (showing (W .symbol c) c) (m .low) true (pulls-sda (W .symbol c)), quiet)
 
-abbrev pub sets-count : MasterModel → StageModel → MasterModel × VerdictModel
-sets-count m s = (to m s (m .high) (m .pulls .scl) (m .pulls .sda), quiet)
+  abbrev pub sets-count : MasterModel → StageModel → MasterModel × VerdictModel
+  sets-count m s = (to m s (m .high) (m .pulls .scl) (m .pulls .sda), quiet)
 
--- 1 and the repeated start are lost under a low; otherwise the stop lets go of SDA and the repeated start pulls it
-abbrev pub rises : MasterModel → Symbol → CursorModel → Bool → MasterModel × VerdictModel
-rises m symbol.Zero c b = sets-count m (showing symbol.Zero c)
-rises m symbol.Listen c b = sets-count m (showing symbol.Listen c)
-rises m symbol.One c b = cond b (sets-count m (showing symbol.One c)) (loses m)
-rises m symbol.RepeatedStart c b = cond b (to m (showing symbol.RepeatedStart c) (m .high) (m .pulls .scl) true, quiet) (loses m)
-rises m symbol.Stop c b = (to m (ending c) (m .high) (m .pulls .scl) false, quiet)
+  -- 1 and the repeated start are lost under a low; otherwise the stop lets go of SDA and the repeated start pulls it
+  abbrev pub rises : MasterModel → Symbol → W .Cursor → Bool → MasterModel × VerdictModel
+  rises m symbol.Zero c b = sets-count m (showing symbol.Zero c)
+  rises m symbol.Listen c b = sets-count m (showing symbol.Listen c)
+  rises m symbol.One c b = cond b (sets-count m (showing symbol.One c)) (loses m)
+  rises m symbol.RepeatedStart c b = cond b (to m (showing symbol.RepeatedStart c) (m .high) (m .pulls .scl) true, quiet) (loses m)
+  rises m symbol.Stop c b = (to m (ending c) (m .high) (m .pulls .scl) false, quiet)
 
-abbrev pub restarts : MasterModel → Symbol → CursorModel → MasterModel × VerdictModel
-restarts m symbol.One c = loses m
-restarts m symbol.Zero c = sets-count m (showing symbol.Zero c)
-restarts m symbol.Listen c = sets-count m (showing symbol.Listen c)
-restarts m symbol.RepeatedStart c = sets-count m (showing symbol.RepeatedStart c)
-restarts m symbol.Stop c = sets-count m (showing symbol.Stop c)
+  abbrev pub restarts : MasterModel → Symbol → W .Cursor → MasterModel × VerdictModel
+  restarts m symbol.One c = loses m
+  restarts m symbol.Zero c = sets-count m (showing symbol.Zero c)
+  restarts m symbol.Listen c = sets-count m (showing symbol.Listen c)
+  restarts m symbol.RepeatedStart c = sets-count m (showing symbol.RepeatedStart c)
+  restarts m symbol.Stop c = sets-count m (showing symbol.Stop c)
 
--- the clock is let go where the low count is over, and pulled where the high count is
-abbrev pub lowers-low : MasterModel → StageModel → MasterModel × VerdictModel
-lowers-low m s = (to m s (m .count - 1) (ltb 0 (m .count - 1)) (m .pulls .sda), quiet)
+  -- the clock is let go where the low count is over, and pulled where the high count is
+  abbrev pub lowers-low : MasterModel → StageModel → MasterModel × VerdictModel
+  lowers-low m s = (to m s (m .count - 1) (ltb 0 (m .count - 1)) (m .pulls .sda), quiet)
 
-abbrev pub lowers-high : MasterModel → StageModel → MasterModel × VerdictModel
-lowers-high m s = (to m s (m .count - 1) (eqb (m .count - 1) 0) (m .pulls .sda), quiet)
+  abbrev pub lowers-high : MasterModel → StageModel → MasterModel × VerdictModel
+  lowers-high m s = (to m s (m .count - 1) (eqb (m .count - 1) 0) (m .pulls .sda), quiet)
 
--- a master in a stage, at an event, with the bit that counts at it and whether the bus is free with both lines high
-abbrev pub steps : MasterModel → StageModel → Event → Option Bool → Bool → MasterModel × VerdictModel
-steps m waiting SteadyHigh o free = cond free (contends m (m .arming)) (stays m)
-steps m waiting (Rise b) o free = stays m
-steps m waiting Fall o free = stays m
-steps m waiting Start o free = stays m
-steps m waiting Stop o free = stays m
-steps m waiting SteadyLow o free = stays m
-steps m (opening c) Start o free = sets-count m (opening c)
-steps m (opening c) SteadyHigh o free = lowers-high m (opening c)
-steps m (opening c) Fall o free = shows m c
-steps m (opening c) (Rise b) o free = sets-count m (opening c)
-steps m (opening c) SteadyLow o free = lowers-low m (opening c)
-steps m (opening c) Stop o free = stays m
-steps m (showing s c) Fall o free = shows m (cursor-next c (valueOr o true))
-steps m (showing s c) SteadyLow o free = lowers-low m (showing s c)
-steps m (showing s c) (Rise b) o free = rises m s c b
-steps m (showing s c) SteadyHigh o free = lowers-high m (showing s c)
-steps m (showing s c) Start o free = restarts m s c
-steps m (showing s c) Stop o free = stays m
-steps m (ending c) Stop o free = tells m c
-steps m (ending c) (Rise b) o free = loses m
-steps m (ending c) Fall o free = loses m
-steps m (ending c) Start o free = loses m
-steps m (ending c) SteadyHigh o free = loses m
-steps m (ending c) SteadyLow o free = loses m
+  -- a master in a stage, at an event, with the bit that counts at it and whether the bus is free with both lines high
+  abbrev pub steps : MasterModel → StageModel → Event → Option Bool → Bool → MasterModel × VerdictModel
+  steps m waiting SteadyHigh o free = cond free (contends m (m .arming)) (stays m)
+  steps m waiting (Rise b) o free = stays m
+  steps m waiting Fall o free = stays m
+  steps m waiting Start o free = stays m
+  steps m waiting Stop o free = stays m
+  steps m waiting SteadyLow o free = stays m
+  steps m (opening c) Start o free = sets-count m (opening c)
+  steps m (opening c) SteadyHigh o free = lowers-high m (opening c)
+  steps m (opening c) Fall o free = shows m c
+  steps m (opening c) (Rise b) o free = sets-count m (opening c)
+  steps m (opening c) SteadyLow o free = lowers-low m (opening c)
+  steps m (opening c) Stop o free = stays m
+  steps m (showing s c) Fall o free = shows m (W .next c (valueOr o true))
+  steps m (showing s c) SteadyLow o free = lowers-low m (showing s c)
+  steps m (showing s c) (Rise b) o free = rises m s c b
+  steps m (showing s c) SteadyHigh o free = lowers-high m (showing s c)
+  steps m (showing s c) Start o free = restarts m s c
+  steps m (showing s c) Stop o free = stays m
+  steps m (ending c) Stop o free = tells m c
+  steps m (ending c) (Rise b) o free = loses m
+  steps m (ending c) Fall o free = loses m
+  steps m (ending c) Start o free = loses m
+  steps m (ending c) SteadyHigh o free = loses m
+  steps m (ending c) SteadyLow o free = loses m
 
-abbrev pub master-step : MasterModel → Signal → MasterModel × VerdictModel
-master-step m s = steps m (m .stage) (s .event) (s .bit) (s .idle)
+  abbrev pub master-step : MasterModel → Signal → MasterModel × VerdictModel
+  master-step m s = steps m (m .stage) (s .event) (s .bit) (s .idle)
 
--- an armed master is refused with 6, and one whose host wants nothing with 7
-abbrev pub arms : MasterModel → ArmingModel → Option Transfer → Result (Unit {0}) ℕ × MasterModel
-arms m (armed t) want = (Err 6, m)
-arms m unarmed None = (Err 7, m)
-arms m unarmed (Some t) = (Ok tt, record { low = m .low; high = m .high; arming = armed (transfer-model t); stage = m .stage; count = m .count; pulls = m .pulls })
+  -- an armed master is refused with 6, and one whose host wants nothing with 7
+  abbrev pub arms : MasterModel → ArmingModel → Option (W .Task) → Result (Unit {0}) ℕ × MasterModel
+  arms m (armed t) want = (Err 6, m)
+  arms m unarmed None = (Err 7, m)
+  arms m unarmed (Some t) = (Ok tt, record { low = m .low; high = m .high; arming = armed t; stage = m .stage; count = m .count; pulls = m .pulls })
 
-abbrev pub arm-master : MasterModel → Option Transfer → Result (Unit {0}) ℕ × MasterModel
-arm-master m want = arms m (m .arming) want
+  abbrev pub arm-master : MasterModel → Option (W .Task) → Result (Unit {0}) ℕ × MasterModel
+  arm-master m want = arms m (m .arming) want
 
-abbrev pub arming-model : Arming → ArmingModel
+abbrev pub arming-model : Arming → ArmingModel transfers
 arming-model Idle = unarmed
 arming-model (Armed t) = armed (transfer-model t)
 
-abbrev pub stage-model : Stage → CursorModel → StageModel
+abbrev pub stage-model : Stage → CursorModel → StageModel transfers
 stage-model Waiting c = waiting
 stage-model Opening c = opening c
 stage-model (Showing s) c = showing s c
 stage-model Ending c = ending c
 
-abbrev pub master-model : MasterState → MasterModel
+abbrev pub master-model : MasterState → MasterModel transfers
 master-model m = record {
   low = m .clock .low;
   high = m .clock .high;
@@ -160,7 +161,7 @@ master-model m = record {
   pulls = m .pulls;
 }
 
-abbrev pub verdict-model : Verdict → VerdictModel
+abbrev pub verdict-model : Verdict → VerdictModel transfers
 verdict-model Quiet = quiet
 verdict-model Lost = lost
 verdict-model (Told o) = told (outcome-model o)

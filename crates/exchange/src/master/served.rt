@@ -4,6 +4,7 @@ ghost use Rattle.transfer.specs.Refusals.{answer};
 ghost use Rattle.exchange.specs.Buses.{Served, served-pulls, served-armed, served-new, served-arm, served-step, served-mark};
 ghost use Rattle.exchange.specs.Masters.{new-master};
 ghost use Rattle.exchange.specs.Parts.{served};
+ghost use Rattle.exchange.specs.Scripts.{transfers};
 use super::Arming;
 use super::Master;
 use super::MasterState;
@@ -17,7 +18,7 @@ use transfer::Refusal;
 
 impl<H: Host> Master<H> {
     pub fn new(clock: ClockPair, host: H) -> Master<H>
-        ensures { λ r. ⌜ served (H·Host .behaviour) (H·Host .means) r ≡ record { master = new-master (clock .low) (clock .high); meaning = H·Host .means host } ⌝ }
+        ensures { λ r. ⌜ served (H·Host .behaviour) (H·Host .means) r ≡ record { master = new-master transfers (clock .low) (clock .high); meaning = H·Host .means host } ⌝ }
     {
         Master {
             state: MasterState::new(clock),

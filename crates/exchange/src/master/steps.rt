@@ -3,6 +3,7 @@ ghost use mathlib.Core.Path.{_≡_};
 ghost use Rattle.exchange.specs.Masters.{master-model, new-master, master-step, verdict-model, contends, shows, rises, loses, tells};
 ghost use Rattle.exchange.specs.Cursors.{cursor-model};
 ghost use Rattle.exchange.specs.declared.master.Stage.the-variants.{Showing};
+ghost use Rattle.exchange.specs.Scripts.{transfers};
 use super::Arming;
 use super::MasterState;
 use super::Stage;
@@ -17,7 +18,7 @@ use transfer::Transfer;
 
 impl MasterState {
     pub(crate) fn new(clock: ClockPair) -> MasterState
-        ensures { λ r. ⌜ master-model r ≡ new-master (clock .low) (clock .high) ⌝ }
+        ensures { λ r. ⌜ master-model r ≡ new-master transfers (clock .low) (clock .high) ⌝ }
     {
         MasterState {
             clock,
@@ -30,7 +31,7 @@ impl MasterState {
     }
 
     pub(crate) fn step(&mut self, signal: Signal) -> Verdict
-        ensures { λ r. ⌜ (master-model (now (self .exit)), verdict-model r) ≡ master-step (master-model (now (self .entry))) signal ⌝ }
+        ensures { λ r. ⌜ (master-model (now (self .exit)), verdict-model r) ≡ master-step transfers (master-model (now (self .entry))) signal ⌝ }
     {
         match (self.stage, signal.event) {
             (Stage::Waiting, Event::SteadyHigh) if signal.idle => self.contend(),
@@ -64,7 +65,7 @@ impl MasterState {
 
     // An armed master pulls SDA, for the start of its turn.
     fn contend(&mut self) -> Verdict
-        ensures { λ r. ⌜ (master-model (now (self .exit)), verdict-model r) ≡ contends (master-model (now (self .entry))) (master-model (now (self .entry)) .arming) ⌝ }
+        ensures { λ r. ⌜ (master-model (now (self .exit)), verdict-model r) ≡ contends transfers (master-model (now (self .entry))) (master-model (now (self .entry)) .arming) ⌝ }
     {
         if let Arming::Armed(transfer) = self.arming {
             self.cursor = Cursor::new(transfer);
@@ -80,7 +81,7 @@ impl MasterState {
 
     // At a fall the clock is pulled and the next symbol shown.
     fn show(&mut self) -> Verdict
-        ensures { λ r. ⌜ (master-model (now (self .exit)), verdict-model r) ≡ shows (master-model (now (self .entry))) (cursor-model (now (self .entry) .cursor)) ⌝ }
+        ensures { λ r. ⌜ (master-model (now (self .exit)), verdict-model r) ≡ shows transfers (master-model (now (self .entry))) (cursor-model (now (self .entry) .cursor)) ⌝ }
     {
         let symbol = self.cursor.symbol();
         self.stage = Stage::Showing(symbol);
@@ -95,7 +96,7 @@ impl MasterState {
     // 1 and the repeated start are lost under a low.
     fn rise(&mut self, symbol: Symbol, sda: bool) -> Verdict
         requires { ⌜ now self .stage ≡ Showing symbol ⌝ }
-        ensures { λ r. ⌜ (master-model (now (self .exit)), verdict-model r) ≡ rises (master-model (now (self .entry))) symbol (cursor-model (now (self .entry) .cursor)) sda ⌝ }
+        ensures { λ r. ⌜ (master-model (now (self .exit)), verdict-model r) ≡ rises transfers (master-model (now (self .entry))) symbol (cursor-model (now (self .entry) .cursor)) sda ⌝ }
     {
         match (symbol, sda) {
             (Symbol::One | Symbol::RepeatedStart, false) => return self.lose(),
@@ -112,7 +113,7 @@ impl MasterState {
 
     // A loser lets go of both lines, stays armed and waits.
     fn lose(&mut self) -> Verdict
-        ensures { λ r. ⌜ (master-model (now (self .exit)), verdict-model r) ≡ loses (master-model (now (self .entry))) ⌝ }
+        ensures { λ r. ⌜ (master-model (now (self .exit)), verdict-model r) ≡ loses transfers (master-model (now (self .entry))) ⌝ }
     {
         self.stage = Stage::Waiting;
         self.count = 0;
@@ -121,7 +122,7 @@ impl MasterState {
     }
 
     fn tell(&mut self) -> Verdict
-        ensures { λ r. ⌜ (master-model (now (self .exit)), verdict-model r) ≡ tells (master-model (now (self .entry))) (cursor-model (now (self .entry) .cursor)) ⌝ }
+        ensures { λ r. ⌜ (master-model (now (self .exit)), verdict-model r) ≡ tells transfers (master-model (now (self .entry))) (cursor-model (now (self .entry) .cursor)) ⌝ }
     {
         self.arming = Arming::Idle;
         self.stage = Stage::Waiting;
