@@ -9,3 +9,5 @@ pub mod Ports
 pub mod Banks
 pub mod Buses
 pub mod Parts
+pub mod Strings
+pub mod Carrying

@@ -19,11 +19,11 @@ pub record Script : Type 1 where
 
 abbrev pub transfers : Script
 transfers = record {
-    Task = TransferModel;
-    Cursor = CursorModel;
-    Outcome = OutcomeModel;
-    begin = opening-of;
-    symbol = λ c. symbol-of (c .play);
-    next = cursor-next;
-    outcome = outcome-of;
-  }
+  Task = TransferModel;
+  Cursor = CursorModel;
+  Outcome = OutcomeModel;
+  begin = opening-of;
+  symbol = λ c. symbol-of (c .play);
+  next = cursor-next;
+  outcome = outcome-of;
+}
