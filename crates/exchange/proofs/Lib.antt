@@ -1,3 +1,4 @@
 pub mod Sends
 pub mod Marks
 pub mod Ticks
+pub mod Sides
