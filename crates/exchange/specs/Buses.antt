@@ -8,7 +8,10 @@ use Rattle.std.specs.declared.result.Result.the-variants.{Ok, Err}
 use Rattle.device.specs.Behaviours.{Behaviour}
 use Rattle.host.specs.Behaviours.{HostBehaviour}
 use Rattle.std.specs.Options.{mapped}
+use Rattle.std.specs.declared.option.Option.{Option}
+use Rattle.std.specs.declared.option.Option.the-variants.{Some, None}
 use Rattle.transfer.specs.Drafts.{transfer-model}
+use Rattle.transfer.specs.Outcomes.{OutcomeModel}
 use Rattle.exchange.specs.declared.bus.Tick.{Tick}
 use Rattle.exchange.specs.declared.mark.Mark.{Mark}
 use Rattle.exchange.specs.declared.mark.Mark.the-variants.{Quiet, Told, Lost}
@@ -37,6 +40,12 @@ mark-of quiet = Quiet
 mark-of lost = Lost
 mark-of (told o) = Told
 
+-- the outcome that a host is told, if it is told one
+abbrev pub outcome-told : VerdictModel transfers → Option OutcomeModel
+outcome-told quiet = None
+outcome-told lost = None
+outcome-told (told o) = Some o
+
 module _ (h : HostBehaviour) where
   abbrev pub hears : h .Meaning → VerdictModel transfers → h .Meaning
   hears m quiet = m
@@ -49,6 +58,9 @@ module _ (h : HostBehaviour) where
 
   abbrev pub served-mark : Signal → Served h → Mark
   served-mark s x = mark-of (master-step transfers (x .master) s .1)
+
+  abbrev pub served-told : Signal → Served h → Option OutcomeModel
+  served-told s x = outcome-told (master-step transfers (x .master) s .1)
 
   abbrev pub served-pulls : Served h → Pulls
   served-pulls x = x .master .pulls
@@ -135,6 +147,10 @@ module _ (hs : List HostBehaviour) (ds : List Behaviour) where
   -- one tick: what it shows, and the bus after it
   abbrev pub tick-at : BusModel → Holds ds → Tick × BusModel
   tick-at u a = (shown-at u (levels-at u), after-levels u (levels-at u) a)
+
+  -- what each host is told in the next tick
+  abbrev pub told-at : BusModel → List (Option OutcomeModel)
+  told-at u = listed (λ h. served-told h (signal (u .wire) (levels-at u))) hs (u .masters)
 
   abbrev pub any-armed : BusModel → Bool
   any-armed u = any-of (listed served-armed hs (u .masters))

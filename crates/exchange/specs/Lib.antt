@@ -11,3 +11,7 @@ pub mod Buses
 pub mod Parts
 pub mod Strings
 pub mod Carrying
+pub mod Books
+pub mod Examples
+pub mod Runs
+pub mod Laws

@@ -6,6 +6,7 @@ mod mark;
 mod master;
 mod octet;
 mod port;
+mod promises;
 mod symbol;
 mod wire;
 
@@ -21,6 +22,7 @@ pub use bus::Tick;
 pub use mark::Mark;
 pub use master::Master;
 pub use port::Port;
+pub use promises::worked_examples;
 pub use wire::Event;
 pub use wire::Latch;
 pub use wire::Levels;

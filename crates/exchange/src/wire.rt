@@ -34,7 +34,7 @@ pub struct Signal {
     pub event: Event,
     // the bit that counts in this tick, if one does
     pub bit: Option<bool>,
-    // the bus is free and both lines are high
+    // the bus was free before this tick, and both lines are high
     pub idle: bool,
 }
 

@@ -1,4 +1,4 @@
-// A list of up to 8 items that is filled once and then taken from the front.
+// A list of up to 8 items that is filled as a whole and taken from the front.
 ghost use Prim.Native.Nat.{_≤_};
 
 mod calls;

@@ -9,8 +9,10 @@ use crate::refusal::Refusal;
 pub struct ClockPair {
     low: u8,
     high: u8,
-    ghost some_low: { 1 ≤ low },
-    ghost some_high: { 1 ≤ high },
+    ghost low_from: { 1 ≤ low },
+    ghost low_to: { low ≤ 255 },
+    ghost high_from: { 1 ≤ high },
+    ghost high_to: { high ≤ 255 },
 }
 
 impl ClockPair {

@@ -37,6 +37,7 @@ impl<M: Masters, P: Ports> Bus<M, P> {
         self.masters.arm(master)
     }
 
+    // One tick, one function of the bus before it and of what the devices answer to hold: that alone is open.
     pub fn tick(&mut self) -> Tick
         ensures { λ r. ⌜ ((h : Holds (P·Ports .devices)) × ((r, bus-model (M·Masters .hosts) (M·Masters .stand) (P·Ports .devices) (P·Ports .stand) (now (self .exit))) ≡ tick-at (M·Masters .hosts) (P·Ports .devices) (bus-model (M·Masters .hosts) (M·Masters .stand) (P·Ports .devices) (P·Ports .stand) (now (self .entry))) h)) ⌝ }
     {
