@@ -45,6 +45,7 @@ pub struct MasterState {
     cursor: Cursor,
 }
 
+#[derive(Drop)]
 pub struct Master<H> {
     state: MasterState,
     host: H,

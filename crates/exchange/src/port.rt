@@ -24,6 +24,7 @@ pub enum Mode {
     Reading(Partial),
 }
 
+#[derive(Drop)]
 pub struct Port<D> {
     address: Address,
     device: D,

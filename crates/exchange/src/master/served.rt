@@ -37,7 +37,8 @@ impl<H: Host> Master<H> {
     pub(crate) fn pulls(&self) -> Pulls
         ensures { λ r. ⌜ r ≡ served-pulls (H·Host .behaviour) (served (H·Host .behaviour) (H·Host .means) (now (self .entry))) ⌝ }
     {
-        self.state.pulls
+        // by line: what a tick wrote to one line is then read as it was written
+        Pulls { scl: self.state.pulls.scl, sda: self.state.pulls.sda }
     }
 
     pub(crate) fn is_armed(&self) -> bool
