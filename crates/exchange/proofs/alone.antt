@@ -1,0 +1,6 @@
+-- A script played alone, bit by bit, against the ports is the transfer carried alone, byte by byte.
+pub mod Legal
+pub mod Sealed
+pub mod Octets
+pub mod Banks
+pub mod PortsSide
