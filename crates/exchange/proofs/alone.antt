@@ -4,3 +4,6 @@ pub mod Sealed
 pub mod Octets
 pub mod Banks
 pub mod PortsSide
+pub mod Moves
+pub mod SlotsLeft
+pub mod Alike
