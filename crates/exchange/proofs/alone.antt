@@ -7,3 +7,5 @@ pub mod PortsSide
 pub mod Moves
 pub mod SlotsLeft
 pub mod Alike
+pub mod Runs
+pub mod Phases
