@@ -2,4 +2,5 @@ pub mod Sends
 pub mod Marks
 pub mod Ticks
 pub mod Sides
+pub mod alone
 pub mod Exemplified

@@ -1,0 +1,11 @@
+-- A script played alone, bit by bit, against the ports is the transfer carried alone, byte by byte.
+pub mod Legal
+pub mod Sealed
+pub mod Octets
+pub mod Banks
+pub mod PortsSide
+pub mod Moves
+pub mod SlotsLeft
+pub mod Alike
+pub mod Runs
+pub mod Phases
