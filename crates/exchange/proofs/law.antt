@@ -3,3 +3,8 @@ pub mod Machine
 pub mod Phases
 pub mod Lists
 pub mod Lows
+pub mod Highs
+pub mod Starts
+pub mod Freshes
+pub mod Stays
+pub mod Quiets

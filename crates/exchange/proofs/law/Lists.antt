@@ -13,6 +13,9 @@ use Rattle.exchange.proofs.Sides.{Side}
 use Rattle.exchange.proofs.law.Machine.{any-scl, any-sda, masters-step, verdicts, Bus, levels, after, tick, said, tick-verdicts}
 use Rattle.exchange.proofs.law.Phases.{rank, Cell, out, live, off, look, looks, turns, notes, some, Every, Times, Timed, least}
 
+pub rank-top : (x : Symbol) → rank x ≤ 4
+rank-top x = grind arith
+
 module _ (W : Script) where
   pub step-all : (f g : MasterModel W → W .Cursor → MasterModel W) (t : MasterModel W → W .Cursor → Cell W) (s : Signal) (Q : Symbol → Type 0)
       (still : (m : MasterModel W) → master-step W (off W m) s .0 ≡ off W m)
