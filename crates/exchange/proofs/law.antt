@@ -8,3 +8,7 @@ pub mod Starts
 pub mod Freshes
 pub mod Stays
 pub mod Quiets
+pub mod Race
+pub mod Order
+pub mod Fates
+pub mod Wins
