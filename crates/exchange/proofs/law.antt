@@ -12,3 +12,4 @@ pub mod Race
 pub mod Order
 pub mod Fates
 pub mod Wins
+pub mod Uses
