@@ -3,4 +3,5 @@ pub mod Marks
 pub mod Ticks
 pub mod Sides
 pub mod alone
+pub mod law
 pub mod Exemplified
