@@ -4,4 +4,5 @@ pub mod Ticks
 pub mod Sides
 pub mod alone
 pub mod law
+pub mod view
 pub mod Exemplified

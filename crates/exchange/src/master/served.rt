@@ -38,7 +38,10 @@ impl<H: Host> Master<H> {
         ensures { λ r. ⌜ r ≡ served-pulls (H·Host .behaviour) (served (H·Host .behaviour) (H·Host .means) (now (self .entry))) ⌝ }
     {
         // by line: what a tick wrote to one line is then read as it was written
-        Pulls { scl: self.state.pulls.scl, sda: self.state.pulls.sda }
+        Pulls {
+            scl: self.state.pulls.scl,
+            sda: self.state.pulls.sda,
+        }
     }
 
     pub(crate) fn is_armed(&self) -> bool
