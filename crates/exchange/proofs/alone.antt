@@ -9,3 +9,6 @@ pub mod SlotsLeft
 pub mod Alike
 pub mod Runs
 pub mod Phases
+pub mod Legs
+pub mod Statements
+pub mod CarriedAlone
