@@ -12,3 +12,6 @@ pub mod Phases
 pub mod Legs
 pub mod Statements
 pub mod CarriedAlone
+pub mod Told
+pub mod StringLaws
+pub mod ByteLaws
