@@ -15,3 +15,4 @@ pub mod CarriedAlone
 pub mod Told
 pub mod StringLaws
 pub mod ByteLaws
+pub mod Idle

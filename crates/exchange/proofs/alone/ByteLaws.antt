@@ -1,9 +1,9 @@
 -- The laws of bytes: who took an acknowledged byte, and who gave a byte that was read.
-use mathlib.Core.Bool.{Bool, true, false, cond, _&&_, _||_}
-use mathlib.Core.List.{List, [], _∷_, _++_}
-use mathlib.Core.Logic.{_⊎_, inl, inr, _↔_}
+use mathlib.Core.Bool.{Bool, true, false, cond, _&&_}
+use mathlib.Core.List.{List, [], _∷_}
+use mathlib.Core.Logic.{inl, inr, _↔_}
 use mathlib.Core.Path.{_≡_, refl, sym, _∙_}
-use Prim.Native.Nat.{ℕ, zero, suc, _<_, _≤_, _+_, _-_, _*_}
+use Prim.Native.Nat.{ℕ, zero, suc, _<_, _+_, _-_, _*_}
 use native.Mathlib.Omega.{arith}
 use native.Mathlib.Nat.{mod-eq-of-lt}
 use lib.Bits.{bitAnd, and-mask, and-comm}
@@ -13,8 +13,8 @@ use Rattle.transfer.specs.declared.leg.Direction.{Direction}
 use Rattle.transfer.specs.declared.leg.Direction.the-variants.{Write, Read}
 use Rattle.transfer.specs.declared.outcome.OutcomeKind.the-variants.{Done, NoAnswer, Refused}
 use Rattle.device.specs.Behaviours.{Behaviour}
-use Rattle.exchange.specs.Banks.{Bank, each, listed}
-use Rattle.exchange.specs.Carrying.{Placed, Taking, selected, put-to, taken-from, gives, joined, byte-levels, Passed, ends, after-byte, somebody, written, read, passed}
+use Rattle.exchange.specs.Banks.{Bank, each}
+use Rattle.exchange.specs.Carrying.{Placed, Taking, selected, put-to, taken-from, gives, byte-levels, Passed, ends, after-byte, somebody, written, read, passed}
 use Rattle.exchange.specs.Octets.{digit}
 use Rattle.exchange.specs.Ports.{answers-to}
 use Rattle.exchange.proofs.alone.Banks.{any}

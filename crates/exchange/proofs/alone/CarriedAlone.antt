@@ -10,18 +10,18 @@ use Rattle.transfer.specs.Drafts.{TransferModel}
 use Rattle.transfer.specs.Legs.{LegModel}
 use Rattle.device.specs.Behaviours.{Behaviour}
 use Rattle.exchange.specs.Banks.{Bank, each}
-use Rattle.exchange.specs.Carrying.{Placed, Taking, settled, passed, Passed, Carried, stopped, carried-on, carried, outcome-named}
+use Rattle.exchange.specs.Carrying.{Placed, Taking, settled, passed, Carried, stopped, carried-on, outcome-named}
 use Rattle.exchange.specs.Cursors.{done, again, sends, Notes, CursorModel, at, opening-of, outcome-of, reported}
 use Rattle.exchange.specs.Ports.{PortModel}
 use Rattle.exchange.specs.Scripts.{transfers}
 use Rattle.exchange.specs.Strings.{Letter, stop, restart, bit-letter}
-use Rattle.exchange.proofs.alone.Legal.{Legal-leg, Legal-second, Legal}
+use Rattle.exchange.proofs.alone.Legal.{Legal-leg, Legal-second}
 use Rattle.exchange.proofs.alone.Legs.{notes, closing, leg-plays}
 use Rattle.exchange.proofs.alone.Phases.{addressing-at, Rests, opened-is}
 use Rattle.exchange.proofs.alone.PortsSide.{ports-side, idle-ports}
 use Rattle.exchange.proofs.alone.Runs.{Comes, through, restarts, stops}
 use Rattle.exchange.proofs.alone.SlotsLeft.{slots-left, some-left, fewer}
-use Rattle.exchange.proofs.alone.Statements.{opened-ports, Carried-alone}
+use Rattle.exchange.proofs.alone.Statements.{Carried-alone}
 
 module _ (ds : List Behaviour) where
   abbrev Goes : CursorModel → Bank PortModel ds → List Letter → CursorModel → Bank PortModel ds → Type 0

@@ -11,7 +11,7 @@ use Rattle.std.specs.declared.option.Option.{Option}
 use Rattle.std.proofs.shelf.Tests.{lt-ltb, le-ltb}
 use Rattle.std.proofs.shelf.Ways.{tells}
 use Rattle.transfer.specs.declared.leg.Direction.{Direction}
-use Rattle.transfer.specs.declared.leg.Direction.the-variants.{Write, Read}
+use Rattle.transfer.specs.declared.leg.Direction.the-variants.{Write}
 use Rattle.transfer.specs.declared.outcome.OutcomeKind.{OutcomeKind}
 use Rattle.transfer.specs.declared.outcome.OutcomeKind.the-variants.{Done, NoAnswer, Refused}
 use Rattle.transfer.specs.Legs.{BodyModel, writes, reads, LegModel, body-direction}

@@ -1,26 +1,24 @@
 -- All ports as the far side that a script is played against, and how it follows the ports at each event.
 use mathlib.Core.Bool.{Bool, true, false, cond, _||_}
 use mathlib.Core.List.{List, [], _∷_}
-use mathlib.Core.Path.{_≡_, refl, ap, _∙_}
+use mathlib.Core.Path.{_≡_, refl, ap}
 use Prim.Native.Nat.{ℕ, suc, _/_, _%_}
 use lib.Dec.{eqb, ltb}
 use Rattle.std.specs.declared.option.Option.{Option}
 use Rattle.std.specs.declared.option.Option.the-variants.{Some, None}
-use Rattle.transfer.specs.declared.leg.Direction.{Direction}
 use Rattle.transfer.specs.declared.leg.Direction.the-variants.{Write, Read}
 use Rattle.device.specs.Behaviours.{Behaviour}
 use Rattle.exchange.specs.declared.port.Mode.{Mode}
 use Rattle.exchange.specs.declared.port.Mode.the-variants.{Out, Addressing, Writing, Acknowledging, Reading}
 use Rattle.exchange.specs.declared.wire.Event.{Event}
 use Rattle.exchange.specs.declared.wire.Event.the-variants.{Rise, Fall, Start, Stop, SteadyHigh, SteadyLow}
-use Rattle.exchange.specs.declared.wire.Signal.{Signal}
 use Rattle.exchange.specs.Banks.{Bank, each, listed}
 use Rattle.exchange.specs.Buses.{port-new, all-pulls, Holds, ports-step}
 use Rattle.exchange.specs.Carrying.{Placed}
 use Rattle.exchange.specs.Octets.{shifted}
-use Rattle.exchange.specs.Ports.{PortModel, part, mode-pulls, port-pulls, answers-to, direction-of, goes, selects, called, puts, reads-on, counts, settles, sees, new-port}
+use Rattle.exchange.specs.Ports.{PortModel, part, mode-pulls, port-pulls, answers-to, direction-of, goes, selects, called, puts, reads-on, counts, settles, new-port}
 use Rattle.exchange.proofs.Sides.{Side}
-use Rattle.exchange.proofs.alone.Banks.{any, each-each}
+use Rattle.exchange.proofs.alone.Banks.{any}
 
 -- a port between slots: how long it holds SCL is no part of a slot
 abbrev pub unheld : (b : Behaviour) → PortModel b → PortModel b

@@ -6,7 +6,7 @@ use mathlib.Core.Path.{_≡_, refl, sym, ap, _∙_}
 use Prim.Native.Nat.{ℕ, suc, _≤_}
 use native.Mathlib.Omega.{arith}
 use native.Mathlib.Nat.{le-refl}
-use lib.Dec.{eqb, ltb}
+use lib.Dec.{ltb}
 use lib.ListN.{length, length-map}
 use Rattle.std.specs.declared.option.Option.{Option}
 use Rattle.std.specs.declared.option.Option.the-variants.{Some, None}
@@ -21,7 +21,7 @@ use Rattle.exchange.specs.Carrying.{Placed, settled, passed, Passed, carried-o
 use Rattle.exchange.specs.Cursors.{done, at, opening-of, outcome-of}
 use Rattle.exchange.specs.Scripts.{Script, transfers}
 use Rattle.exchange.specs.Strings.{Letter, stop, restart, one, rank, bit-letter, first-or-same}
-use Rattle.exchange.proofs.Sides.{Side, ends, letter, heard, after, string}
+use Rattle.exchange.proofs.Sides.{Side, ends, heard, after, string}
 use Rattle.exchange.proofs.alone.Alike.{cursor-laws}
 use Rattle.exchange.proofs.alone.CarriedAlone.{carried-alone}
 use Rattle.exchange.proofs.alone.Legal.{Legal}
