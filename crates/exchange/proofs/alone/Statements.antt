@@ -6,6 +6,8 @@ use mathlib.Core.Path.{_≡_}
 use Prim.Native.Nat.{ℕ, zero, suc, _<_, _≤_, _+_, _*_}
 use lib.Dec.{ltb}
 use lib.ListN.{length, getD, take}
+use Rattle.std.specs.declared.option.Option.{Option}
+use Rattle.std.specs.declared.option.Option.the-variants.{Some, None}
 use Rattle.transfer.specs.declared.leg.Direction.the-variants.{Write, Read}
 use Rattle.transfer.specs.declared.outcome.OutcomeKind.the-variants.{Done}
 use Rattle.transfer.specs.Drafts.{TransferModel}
@@ -69,6 +71,17 @@ pub record Is-bit (t : Letter) : Type 0 where
 abbrev pub Zero-against-one : Letter → Letter → Type 0
 Zero-against-one t u = ((t ≡ Letter.zero) × (u ≡ one)) ⊎ ((t ≡ one) × (u ≡ Letter.zero))
 
+-- what a letter is beside a bit: nothing, a stop or a repeated start
+abbrev pub condition : Letter → Option Letter
+condition Letter.zero = None
+condition stop = Some stop
+condition restart = Some restart
+condition one = None
+
+-- two strings stop and restart at the same places
+abbrev pub Same-conditions : List Letter → List Letter → Type 0
+Same-conditions ts us = (k : ℕ) → condition (getD ts k stop) ≡ condition (getD us k stop)
+
 -- the strings of transfers carried alone, over two banks of devices, which may be one
 pub record String-laws (ds es : List Behaviour) : Type 0 where
   pub one-stop : (t : TransferModel) (d : Bank Placed ds) → One-stop (carried ds t d .letters)
@@ -84,7 +97,10 @@ pub record String-laws (ds es : List Behaviour) : Type 0 where
   -- where they part, and neither stops nor restarts there, one shows 0 and the other 1
   pub zero-against-one : (t u : TransferModel) (d : Bank Placed ds) (e : Bank Placed es) (p : Parting (carried ds t d .letters) (carried es u e .letters)) →
       Is-bit (p .one-letter) → Is-bit (p .other-letter) → Zero-against-one (p .one-letter) (p .other-letter)
-  -- and the letter there says which comes first
+  -- so do two that stop and restart at the same places
+  pub bits-decide : (t u : TransferModel) (d : Bank Placed ds) (e : Bank Placed es) → Same-conditions (carried ds t d .letters) (carried es u e .letters) →
+      (p : Parting (carried ds t d .letters) (carried es u e .letters)) → Zero-against-one (p .one-letter) (p .other-letter)
+  -- the letter where they part says which comes first
   pub first-by-letter : (t u : TransferModel) (d : Bank Placed ds) (e : Bank Placed es) (p : Parting (carried ds t d .letters) (carried es u e .letters)) →
       first-or-same (carried ds t d .letters) (carried es u e .letters) ≡ ltb (rank (p .one-letter)) (rank (p .other-letter))
 

@@ -7,7 +7,7 @@ use Prim.Native.Nat.{ℕ, suc, _≤_}
 use native.Mathlib.Omega.{arith}
 use native.Mathlib.Nat.{le-refl}
 use lib.Dec.{ltb}
-use lib.ListN.{length, length-map}
+use lib.ListN.{length, getD, length-map}
 use Rattle.std.specs.declared.option.Option.{Option}
 use Rattle.std.specs.declared.option.Option.the-variants.{Some, None}
 use Rattle.std.proofs.shelf.Tests.{cases-eq, eq-eqb, ne-eqb}
@@ -27,7 +27,7 @@ use Rattle.exchange.proofs.alone.CarriedAlone.{carried-alone}
 use Rattle.exchange.proofs.alone.Legal.{Legal}
 use Rattle.exchange.proofs.alone.PortsSide.{ports-side}
 use Rattle.exchange.proofs.alone.SlotsLeft.{slots-left, at-most-308}
-use Rattle.exchange.proofs.alone.Statements.{opened-ports, Without-stop, One-stop, Parting, Is-bit, Zero-against-one, String-laws}
+use Rattle.exchange.proofs.alone.Statements.{opened-ports, Without-stop, One-stop, Parting, Is-bit, Zero-against-one, condition, Same-conditions, String-laws}
 use Rattle.exchange.proofs.alone.Told.{Twins, same-end}
 
 -- letters are told apart by their rank
@@ -118,6 +118,34 @@ zero-against-one one stop d h k = absurd (k .no-stop refl)
 zero-against-one one restart d h k = absurd (k .no-restart refl)
 zero-against-one one one d h k = absurd (d refl)
 
+letter-at : (ts : List Letter) (t : Letter) (us : List Letter) → getD (ts ++ (t ∷ us)) (length ts) stop ≡ t
+letter-at [] t us = refl
+letter-at (r ∷ ts) t us = letter-at ts t us
+
+bits-or-same : (t u : Letter) → (t ≡ u → ⊥) → condition t ≡ condition u → Zero-against-one t u
+bits-or-same Letter.zero Letter.zero d e = absurd (d refl)
+bits-or-same Letter.zero stop d e = absurd (d (cc))
+bits-or-same Letter.zero restart d e = absurd (d (cc))
+bits-or-same Letter.zero one d e = inl (refl, refl)
+bits-or-same stop Letter.zero d e = absurd (d (cc))
+bits-or-same stop stop d e = absurd (d refl)
+bits-or-same stop restart d e = absurd (d (cc))
+bits-or-same stop one d e = absurd (d (cc))
+bits-or-same restart Letter.zero d e = absurd (d (cc))
+bits-or-same restart stop d e = absurd (d (cc))
+bits-or-same restart restart d e = absurd (d refl)
+bits-or-same restart one d e = absurd (d (cc))
+bits-or-same one Letter.zero d e = inr (refl, refl)
+bits-or-same one stop d e = absurd (d (cc))
+bits-or-same one restart d e = absurd (d (cc))
+bits-or-same one one d e = absurd (d refl)
+
+bits-decide : (ts us : List Letter) (p : Parting ts us) → Same-conditions ts us → Zero-against-one (p .one-letter) (p .other-letter)
+bits-decide ts us p h = let k = length (p .front) in
+    let a : getD ts k stop ≡ p .one-letter = ap (λ r. getD r k stop) (p .one-is) ∙ letter-at (p .front) (p .one-letter) (p .one-rest) in
+    let b : getD us k stop ≡ p .other-letter = ap (λ r. getD r k stop) (p .other-is) ∙ letter-at (p .front) (p .other-letter) (p .other-rest) in
+    bits-or-same (p .one-letter) (p .other-letter) (p .differ) (sym (ap condition a) ∙ h k ∙ ap condition b)
+
 first-by-letter : (ts : List Letter) (t u : Letter) (vs ws : List Letter) → (t ≡ u → ⊥) → first-or-same (ts ++ (t ∷ vs)) (ts ++ (u ∷ ws)) ≡ ltb (rank t) (rank u)
 first-by-letter [] t u vs ws d = rw (ne-eqb (rank t) (rank u) (λ e. d (same-rank t u e)))
 first-by-letter (r ∷ ts) t u vs ws d = rw (eq-eqb (rank r) (rank r) refl) (first-by-letter ts t u vs ws d)
@@ -171,5 +199,6 @@ string-laws ds es = record {
   parting = λ t u d e. let a = carried-stop ds t d in let b = carried-stop es u e in
       rw (a .front-stop, b .front-stop) (parting (a .front) (b .front) (a .no-other) (b .no-other));
   zero-against-one = λ t u d e p h k. zero-against-one (p .one-letter) (p .other-letter) (p .differ) h k;
+  bits-decide = λ t u d e h p. bits-decide (carried ds t d .letters) (carried es u e .letters) p h;
   first-by-letter = λ t u d e p. rw (p .one-is, p .other-is) (first-by-letter (p .front) (p .one-letter) (p .other-letter) (p .one-rest) (p .other-rest) (p .differ));
 }
