@@ -12,6 +12,7 @@ use Rattle.exchange.specs.declared.port.Mode.{Mode}
 use Rattle.exchange.specs.declared.port.Mode.the-variants.{Out, Addressing, Writing, Acknowledging, Reading}
 use Rattle.exchange.specs.declared.wire.Event.{Event}
 use Rattle.exchange.specs.declared.wire.Event.the-variants.{Rise, Fall, Start, Stop, SteadyHigh, SteadyLow}
+use Rattle.exchange.specs.declared.wire.Signal.{Signal}
 use Rattle.exchange.specs.Banks.{Bank, each, listed}
 use Rattle.exchange.specs.Buses.{port-new, all-pulls, Holds, ports-step}
 use Rattle.exchange.specs.Carrying.{Placed}
@@ -88,23 +89,26 @@ module _ (b : Behaviour) where
   pub unheld-settles : (p : PortModel b) (m : Mode) → unheld b (settles b p m) ≡ settles b (unheld b p) m
   unheld-settles p m = refl
 
--- at every signal the ports, but for what they hold, go as the side does
-pub side-follows : (ds : List Behaviour) (s : Bank PortModel ds) (e : Event) (o : Option Bool) (i : Bool) (a : Holds ds) →
+follows : (ds : List Behaviour) (s : Bank PortModel ds) (e : Event) (o : Option Bool) (i : Bool) (a : Holds ds) →
     each unheld ds (ports-step ds s (record { event = e; bit = o; idle = i }) a) ≡ side-sees ds e o (each unheld ds s)
-side-follows [] s Start o i a = refl
-side-follows [] s Stop o i a = refl
-side-follows [] s Fall None i a = refl
-side-follows [] s Fall (Some x) i a = refl
-side-follows [] s SteadyLow o i a = refl
-side-follows [] s SteadyHigh o i a = refl
-side-follows [] s (Rise x) o i a = refl
-side-follows (b ∷ ds) s Start o i a = ap (λ r. (unheld b (starting b (s .0)), r)) (side-follows ds (s .1) Start o i (a .1))
-side-follows (b ∷ ds) s Stop o i a = ap (λ r. (unheld b (stopping b (s .0)), r)) (side-follows ds (s .1) Stop o i (a .1))
-side-follows (b ∷ ds) s Fall None i a = ap (λ r. (unheld b (s .0), r)) (side-follows ds (s .1) Fall None i (a .1))
-side-follows (b ∷ ds) s Fall (Some x) i a = λ j. (unheld-counts b (s .0) (s .0 .mode) x (a .0 .0) j, side-follows ds (s .1) Fall (Some x) i (a .1) j)
-side-follows (b ∷ ds) s SteadyLow o i a = ap (λ r. (unheld b (s .0), r)) (side-follows ds (s .1) SteadyLow o i (a .1))
-side-follows (b ∷ ds) s SteadyHigh o i a = ap (λ r. (unheld b (s .0), r)) (side-follows ds (s .1) SteadyHigh o i (a .1))
-side-follows (b ∷ ds) s (Rise x) o i a = ap (λ r. (unheld b (s .0), r)) (side-follows ds (s .1) (Rise x) o i (a .1))
+follows [] s Start o i a = refl
+follows [] s Stop o i a = refl
+follows [] s Fall None i a = refl
+follows [] s Fall (Some x) i a = refl
+follows [] s SteadyLow o i a = refl
+follows [] s SteadyHigh o i a = refl
+follows [] s (Rise x) o i a = refl
+follows (b ∷ ds) s Start o i a = ap (λ r. (unheld b (starting b (s .0)), r)) (follows ds (s .1) Start o i (a .1))
+follows (b ∷ ds) s Stop o i a = ap (λ r. (unheld b (stopping b (s .0)), r)) (follows ds (s .1) Stop o i (a .1))
+follows (b ∷ ds) s Fall None i a = ap (λ r. (unheld b (s .0), r)) (follows ds (s .1) Fall None i (a .1))
+follows (b ∷ ds) s Fall (Some x) i a = λ j. (unheld-counts b (s .0) (s .0 .mode) x (a .0 .0) j, follows ds (s .1) Fall (Some x) i (a .1) j)
+follows (b ∷ ds) s SteadyLow o i a = ap (λ r. (unheld b (s .0), r)) (follows ds (s .1) SteadyLow o i (a .1))
+follows (b ∷ ds) s SteadyHigh o i a = ap (λ r. (unheld b (s .0), r)) (follows ds (s .1) SteadyHigh o i (a .1))
+follows (b ∷ ds) s (Rise x) o i a = ap (λ r. (unheld b (s .0), r)) (follows ds (s .1) (Rise x) o i (a .1))
+
+-- at every signal the ports, but for what they hold, go as the side does
+pub side-follows : (ds : List Behaviour) (s : Bank PortModel ds) (v : Signal) (a : Holds ds) → each unheld ds (ports-step ds s v a) ≡ side-sees ds (v .event) (v .bit) (each unheld ds s)
+side-follows ds s v a = follows ds s (v .event) (v .bit) (v .idle) a
 
 -- the ports pull SDA exactly if the side does
 pub side-pulls : (ds : List Behaviour) (s : Bank PortModel ds) → all-pulls (listed port-pulls ds s) .sda ≡ ports-side ds .pulls (each unheld ds s)
