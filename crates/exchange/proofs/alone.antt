@@ -9,3 +9,10 @@ pub mod SlotsLeft
 pub mod Alike
 pub mod Runs
 pub mod Phases
+pub mod Legs
+pub mod Statements
+pub mod CarriedAlone
+pub mod Told
+pub mod StringLaws
+pub mod ByteLaws
+pub mod Idle

@@ -1,7 +1,7 @@
 -- Where a cursor goes and what it notes, each by itself.
 use mathlib.Core.Bool.{Bool, true, false, cond, _&&_}
 use mathlib.Core.List.{[], _∷_, _++_}
-use mathlib.Core.Path.{_≡_, refl, ap, _∙_}
+use mathlib.Core.Path.{_≡_, refl}
 use Prim.Native.Nat.{ℕ, suc}
 use lib.Dec.{ltb}
 use Rattle.std.specs.declared.option.Option.{Option}

@@ -1,9 +1,9 @@
 -- A byte and its eight bits.
-use mathlib.Core.Bool.{Bool, true, false, not, _&&_}
-use mathlib.Core.Path.{_≡_, refl, ap, _∙_}
+use mathlib.Core.Bool.{true, _&&_}
+use mathlib.Core.Path.{_≡_, refl}
 use Prim.Native.Nat.{ℕ, zero, suc, _≤_, _<_, _+_, _-_, _*_, _/_, _%_, _^_}
 use native.Mathlib.Omega.{arith}
-use native.Mathlib.Nat.{div-div-eq-div-mul, pow-suc, div-eq-of-lt, div-one, mod-eq-of-lt, div-le-self}
+use native.Mathlib.Nat.{div-div-eq-div-mul, pow-suc, div-le-self}
 use lib.Dec.{eqb, ltb}
 use lib.Bits.{bitAnd, and-shr, and-step}
 use Rattle.std.proofs.shelf.Ways.{tells}

@@ -1,12 +1,11 @@
 -- All ports as the far side that a script is played against, and how it follows the ports at each event.
 use mathlib.Core.Bool.{Bool, true, false, cond, _||_}
 use mathlib.Core.List.{List, [], _∷_}
-use mathlib.Core.Path.{_≡_, refl, ap, _∙_}
+use mathlib.Core.Path.{_≡_, refl, ap}
 use Prim.Native.Nat.{ℕ, suc, _/_, _%_}
 use lib.Dec.{eqb, ltb}
 use Rattle.std.specs.declared.option.Option.{Option}
 use Rattle.std.specs.declared.option.Option.the-variants.{Some, None}
-use Rattle.transfer.specs.declared.leg.Direction.{Direction}
 use Rattle.transfer.specs.declared.leg.Direction.the-variants.{Write, Read}
 use Rattle.device.specs.Behaviours.{Behaviour}
 use Rattle.exchange.specs.declared.port.Mode.{Mode}
@@ -18,9 +17,9 @@ use Rattle.exchange.specs.Banks.{Bank, each, listed}
 use Rattle.exchange.specs.Buses.{port-new, all-pulls, Holds, ports-step}
 use Rattle.exchange.specs.Carrying.{Placed}
 use Rattle.exchange.specs.Octets.{shifted}
-use Rattle.exchange.specs.Ports.{PortModel, part, mode-pulls, port-pulls, answers-to, direction-of, goes, selects, called, puts, reads-on, counts, settles, sees, new-port}
+use Rattle.exchange.specs.Ports.{PortModel, part, mode-pulls, port-pulls, answers-to, direction-of, goes, selects, called, puts, reads-on, counts, settles, new-port}
 use Rattle.exchange.proofs.Sides.{Side}
-use Rattle.exchange.proofs.alone.Banks.{any, each-each}
+use Rattle.exchange.proofs.alone.Banks.{any}
 
 -- a port between slots: how long it holds SCL is no part of a slot
 abbrev pub unheld : (b : Behaviour) → PortModel b → PortModel b
@@ -90,23 +89,26 @@ module _ (b : Behaviour) where
   pub unheld-settles : (p : PortModel b) (m : Mode) → unheld b (settles b p m) ≡ settles b (unheld b p) m
   unheld-settles p m = refl
 
--- at every signal the ports, but for what they hold, go as the side does
-pub side-follows : (ds : List Behaviour) (s : Bank PortModel ds) (e : Event) (o : Option Bool) (i : Bool) (a : Holds ds) →
+follows : (ds : List Behaviour) (s : Bank PortModel ds) (e : Event) (o : Option Bool) (i : Bool) (a : Holds ds) →
     each unheld ds (ports-step ds s (record { event = e; bit = o; idle = i }) a) ≡ side-sees ds e o (each unheld ds s)
-side-follows [] s Start o i a = refl
-side-follows [] s Stop o i a = refl
-side-follows [] s Fall None i a = refl
-side-follows [] s Fall (Some x) i a = refl
-side-follows [] s SteadyLow o i a = refl
-side-follows [] s SteadyHigh o i a = refl
-side-follows [] s (Rise x) o i a = refl
-side-follows (b ∷ ds) s Start o i a = ap (λ r. (unheld b (starting b (s .0)), r)) (side-follows ds (s .1) Start o i (a .1))
-side-follows (b ∷ ds) s Stop o i a = ap (λ r. (unheld b (stopping b (s .0)), r)) (side-follows ds (s .1) Stop o i (a .1))
-side-follows (b ∷ ds) s Fall None i a = ap (λ r. (unheld b (s .0), r)) (side-follows ds (s .1) Fall None i (a .1))
-side-follows (b ∷ ds) s Fall (Some x) i a = λ j. (unheld-counts b (s .0) (s .0 .mode) x (a .0 .0) j, side-follows ds (s .1) Fall (Some x) i (a .1) j)
-side-follows (b ∷ ds) s SteadyLow o i a = ap (λ r. (unheld b (s .0), r)) (side-follows ds (s .1) SteadyLow o i (a .1))
-side-follows (b ∷ ds) s SteadyHigh o i a = ap (λ r. (unheld b (s .0), r)) (side-follows ds (s .1) SteadyHigh o i (a .1))
-side-follows (b ∷ ds) s (Rise x) o i a = ap (λ r. (unheld b (s .0), r)) (side-follows ds (s .1) (Rise x) o i (a .1))
+follows [] s Start o i a = refl
+follows [] s Stop o i a = refl
+follows [] s Fall None i a = refl
+follows [] s Fall (Some x) i a = refl
+follows [] s SteadyLow o i a = refl
+follows [] s SteadyHigh o i a = refl
+follows [] s (Rise x) o i a = refl
+follows (b ∷ ds) s Start o i a = ap (λ r. (unheld b (starting b (s .0)), r)) (follows ds (s .1) Start o i (a .1))
+follows (b ∷ ds) s Stop o i a = ap (λ r. (unheld b (stopping b (s .0)), r)) (follows ds (s .1) Stop o i (a .1))
+follows (b ∷ ds) s Fall None i a = ap (λ r. (unheld b (s .0), r)) (follows ds (s .1) Fall None i (a .1))
+follows (b ∷ ds) s Fall (Some x) i a = λ j. (unheld-counts b (s .0) (s .0 .mode) x (a .0 .0) j, follows ds (s .1) Fall (Some x) i (a .1) j)
+follows (b ∷ ds) s SteadyLow o i a = ap (λ r. (unheld b (s .0), r)) (follows ds (s .1) SteadyLow o i (a .1))
+follows (b ∷ ds) s SteadyHigh o i a = ap (λ r. (unheld b (s .0), r)) (follows ds (s .1) SteadyHigh o i (a .1))
+follows (b ∷ ds) s (Rise x) o i a = ap (λ r. (unheld b (s .0), r)) (follows ds (s .1) (Rise x) o i (a .1))
+
+-- at every signal the ports, but for what they hold, go as the side does
+pub side-follows : (ds : List Behaviour) (s : Bank PortModel ds) (v : Signal) (a : Holds ds) → each unheld ds (ports-step ds s v a) ≡ side-sees ds (v .event) (v .bit) (each unheld ds s)
+side-follows ds s v a = follows ds s (v .event) (v .bit) (v .idle) a
 
 -- the ports pull SDA exactly if the side does
 pub side-pulls : (ds : List Behaviour) (s : Bank PortModel ds) → all-pulls (listed port-pulls ds s) .sda ≡ ports-side ds .pulls (each unheld ds s)
