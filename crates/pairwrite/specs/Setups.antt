@@ -18,6 +18,7 @@ use Rattle.exchange.specs.Buses.{Served, BusModel, made}
 use Rattle.exchange.specs.Masters.{new-master}
 use Rattle.exchange.specs.Parts.{served, bus-model}
 use Rattle.exchange.specs.Ports.{port-model, new-port}
+use Rattle.exchange.specs.Scripts.{transfers}
 
 -- register 3 of the file at address 80
 abbrev pub register-write : ℕ → TransferModel
@@ -31,7 +32,7 @@ abbrev pub master-of : Master ListHost → Served list-host
 master-of m = served list-host listed m
 
 abbrev pub serving : ℕ → ℕ → Listed → Served list-host
-serving low high m = record { master = new-master low high; meaning = m }
+serving low high m = record { master = new-master transfers low high; meaning = m }
 
 abbrev pub pair-model : Bus (Master ListHost × (Master ListHost × End)) (Port RegisterFile × End) → BusModel (list-host ∷ list-host ∷ []) (register-file ∷ [])
 pair-model u =

@@ -90,7 +90,7 @@ module _ (hs : List HostBehaviour) (ds : List Behaviour) where
       let v = levels-at hs ds u in
       let s = signal (u .wire) v in
       let masters-go = steps-of hs (u .masters) s in
-      let side-goes = side-follows ds (u .ports) (s .event) (s .bit) (s .idle) a ∙ same-side (s .event) (s .bit) (each unheld ds (u .ports)) in
+      let side-goes = side-follows ds (u .ports) s a ∙ same-side (s .event) (s .bit) (each unheld ds (u .ports)) in
       let hold-goes = hold-follows ds (u .ports) (s .event) (s .bit) (s .idle) a (λ e. h (falls-from-high (u .wire .last) v e)) in
       (λ i. record { wire = wire-after (u .wire) v; masters = masters-go i; side = side-goes i; hold = hold-goes i })
       ∙ ap (λ w. after transfers (ports-side ds) (seen u) w (answer-at u a)) (levels-seen u)
