@@ -1,3 +1,4 @@
--- The bus as the machine of the law: its masters in a list, its ports as one far side.
+-- The bus as the machine of the law: its masters in a list, its ports as one far side, its hosts together.
 pub mod Holding
 pub mod Seen
+pub mod Hosting
