@@ -2,3 +2,5 @@
 pub mod Holding
 pub mod Seen
 pub mod Hosting
+pub mod Carries
+pub mod Booked
