@@ -13,3 +13,6 @@ pub mod Order
 pub mod Fates
 pub mod Wins
 pub mod Uses
+pub mod Cells
+pub mod Runs
+pub mod Contests
