@@ -16,3 +16,5 @@ pub mod Uses
 pub mod Cells
 pub mod Runs
 pub mod Contests
+pub mod Stands
+pub mod Stops
