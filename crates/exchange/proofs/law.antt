@@ -18,3 +18,4 @@ pub mod Runs
 pub mod Contests
 pub mod Stands
 pub mod Stops
+pub mod Steps
