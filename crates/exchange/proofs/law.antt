@@ -19,3 +19,4 @@ pub mod Contests
 pub mod Stands
 pub mod Stops
 pub mod Steps
+pub mod Every
