@@ -16,7 +16,7 @@ use Rattle.exchange.specs.Scripts.{Script}
 use Rattle.exchange.proofs.Sides.{Side, ends, heard, after, final}
 use Rattle.exchange.proofs.law.Phases.{rank}
 use Rattle.exchange.proofs.law.Race.{at, common, lexb, First, lead, keep, Joint, moved, slot, slots, opened, alone, alone-end, Laws}
-use Rattle.exchange.proofs.law.Uses.{same, begin-one, begins, task-string, task-side, pick, leader, wins, leader-side}
+use Rattle.exchange.proofs.law.Uses.{same, begin-one, begins, task-string, pick, leader, wins, leader-side}
 use Rattle.exchange.proofs.law.Order.{rank-inj, at-keep}
 use Rattle.exchange.proofs.law.Fates.{not-end, next-live, next-side, slots-next, text, gone}
 use Rattle.exchange.proofs.law.Wins.{Arbitrated, settled, lexb-anti, most, common-whole}
@@ -76,6 +76,7 @@ module _ (W : Script) (D : Side) (left : W .Cursor → ℕ) where
     where
       r-has : task-string W D left r s ≡ t
       r-has = let z : r ≡ p = cc in ap (λ x. task-string W D left x s) z ∙ h
+
       go : (o : Option (W .Task)) → leader W D left l s ≡ o → (q : W .Task) × (Some (pick W D left r o s) ≡ Some q) × (task-string W D left q s ≡ t)
       go None d = (r, refl, r-has)
       go (Some x) d =
@@ -111,13 +112,14 @@ module _ (W : Script) (D : Side) where
     where
       go : (ends (lead W l) ≡ true) ⊎ (ends (lead W l) ≡ false) →
           (ends (lead W l) ≡ false → (p′ : W .Cursor) → at (next-live W D l s) i ≡ Some p′ → slots W D k (opened W D (next-live W D l s) (next-side W D l s)) .over ≡ false →
-            at (slots W D k (opened W D (next-live W D l s) (next-side W D l s)) .live) i ≡ Some r → final W D m p′ (next-side W D l s) ≡ final W D n r (slots W D k (opened W D (next-live W D l s) (next-side W D l s)) .side)) →
+          at (slots W D k (opened W D (next-live W D l s) (next-side W D l s)) .live) i ≡ Some r → final W D m p′ (next-side W D l s) ≡ final W D n r (slots W D k (opened W D (next-live W D l s) (next-side W D l s)) .side)) →
           final W D (suc m) p s ≡ final W D n r (slots W D (suc k) (opened W D l s) .side)
       go (inl d) ih = let z = over-later k 0 (slot W D (opened W D l s)) (omega arith) d in let y : _≡_ {A = ℕ} 0 1 = cc in absurd (omega arith)
       go (inr d) ih = two (eqb (rank (lead W l)) (rank (W .symbol p))) refl
         where
           nx : slots W D (suc k) (opened W D l s) ≡ slots W D k (opened W D (next-live W D l s) (next-side W D l s))
           nx = slots-next W D k l s d
+
           two : (v : Bool) → eqb (rank (lead W l)) (rank (W .symbol p)) ≡ v → final W D (suc m) p s ≡ final W D n r (slots W D (suc k) (opened W D l s) .side)
           two true f =
               let g : W .symbol p ≡ lead W l = rank-inj (W .symbol p) (lead W l) (sym (eqb-true (rank (lead W l)) (rank (W .symbol p)) f)) in
@@ -136,10 +138,11 @@ module _ (W : Script) (D : Side) (left : W .Cursor → ℕ) (Alike : W .Cursor �
   fuel-final zero m p s h k = absurd (omega (arith, laws .some-left p))
   fuel-final (suc n) zero p s h k = absurd (omega (arith, laws .some-left p))
   fuel-final (suc n) (suc m) p s h k = elim (cases-bool (ends (W .symbol p))) [
-      inl d ↦ rw d refl
+    | inl d ↦ rw d refl
     | inr d ↦
         let x = laws .fewer p (heard D (W .symbol p) s) (not-end (W .symbol p) d) in
-        rw d (fuel-final n m (W .next p (heard D (W .symbol p) s)) (after D (W .symbol p) s) (omega arith) (omega arith)) ]
+        rw d (fuel-final n m (W .next p (heard D (W .symbol p) s)) (after D (W .symbol p) s) (omega arith) (omega arith))
+  ]
 
   -- l: the contenders, t: the least of their strings
   module _ (l : List (Option (W .Task))) (s0 : D .S) (k r : ℕ) (ps : List (Option (W .Cursor))) (s : D .S) (run : Run W D left Alike (begins W l) s0 k r ps s) where
@@ -164,8 +167,9 @@ module _ (W : Script) (D : Side) (left : W .Cursor → ℕ) (Alike : W .Cursor �
 
     before : (i : ℕ) (q : W .Task) → at l i ≡ Some q → k < length t
     before i q a = elim (cases-lt k (length t)) [
-        inl h ↦ h
-      | inr h ↦ let z = over-later W D k (length t) (opened W D (begins W l) s0) h (facts i q a .over) in let g = goes in let y : _≡_ {A = ℕ} 0 1 = cc in absurd (omega arith) ]
+      | inl h ↦ h
+      | inr h ↦ let z = over-later W D k (length t) (opened W D (begins W l) s0) h (facts i q a .over) in let g = goes in let y : _≡_ {A = ℕ} 0 1 = cc in absurd (omega arith)
+    ]
 
     led : (i : ℕ) (q : W .Task) → at l i ≡ Some q → (q : W .Task) × (leader W D left l s0 ≡ Some q) × (task-string W D left q s0 ≡ t)
     led i q a =
@@ -218,8 +222,9 @@ module _ (W : Script) (D : Side) (left : W .Cursor → ℕ) (Alike : W .Cursor �
       last-slot i q a =
           let h = before i q a in
           elim (cases-lt (suc k) (length t)) [
-              inl z ↦ let y = facts i q a .early (suc k) z in let x = ap (λ x. x .over) soon ∙ rank-ends (lead W ps) stops in let w : _≡_ {A = ℕ} 0 1 = cc in absurd (omega arith)
-            | inr z ↦ omega arith ]
+            | inl z ↦ let y = facts i q a .early (suc k) z in let x = ap (λ x. x .over) soon ∙ rank-ends (lead W ps) stops in let w : _≡_ {A = ℕ} 0 1 = cc in absurd (omega arith)
+            | inr z ↦ omega arith
+          ]
 
       pub stop-wins : (i : ℕ) (q : W .Task) → at l i ≡ Some q → wins W D left q (leader W D left l s0) s0 ≡ isSome (keep W (lead W ps) (heard D (lead W ps) s) (at ps i))
       stop-wins i q a =
@@ -228,8 +233,10 @@ module _ (W : Script) (D : Side) (left : W .Cursor → ℕ) (Alike : W .Cursor �
         where
           f : Arbitrated W D left (begins W l) s0 t
           f = facts i q a
+
           end-at : isSome (at (slots W D (length t) (opened W D (begins W l) s0) .live) i) ≡ isSome (keep W (lead W ps) (heard D (lead W ps) s) (at ps i))
           end-at = ap (λ n. isSome (at (slots W D n (opened W D (begins W l) s0) .live) i)) (last-slot i q a) ∙ ap isSome (soon-at i)
+
           go : (v : Bool) → isSome (keep W (lead W ps) (heard D (lead W ps) s) (at ps i)) ≡ v → (w : Bool) (y : W .Task) → same (task-string W D left q s0) (task-string W D left y s0) ≡ w → task-string W D left y s0 ≡ t → w ≡ v
           go true e true y d h = refl
           go false e false y d h = refl

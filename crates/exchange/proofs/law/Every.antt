@@ -22,7 +22,7 @@ use Rattle.exchange.proofs.law.Phases.{early-lost, Cell, out, looks, idling, c
 use Rattle.exchange.proofs.law.Race.{at, Laws}
 use Rattle.exchange.proofs.law.Uses.{Hosts, Step, arms, ticks, accepted, count, any, answer-if, armed-if, answer, arm-book, nobody, disarm, Wanted, task-of, armeds, pulling, arm-answer, leader, outcomes, Book, stop-tells, book-tells, feed-stop, feed, Watch, watch, spell, fresh-masters, Use, made, does, uses, Held, ticks-of, Clocks, Law, Every-use, Plays}
 use Rattle.exchange.proofs.law.Cells.{cell-armeds, Holding, marked, never, pulls-nothing, armeds-looks}
-use Rattle.exchange.proofs.law.Stands.{Ready, Stands, idle, claims, begun, low, rose, high, fresh-keeps, arm-from, arm-stands}
+use Rattle.exchange.proofs.law.Stands.{Stands, idle, claims, begun, low, rose, high, fresh-keeps, arm-from, arm-stands}
 use Rattle.exchange.proofs.law.Stops.{disarmed}
 use Rattle.exchange.proofs.law.Steps.{Fine, tick-stands}
 
@@ -177,10 +177,11 @@ module _ (W : Script) (D : Side) (left : W .Cursor → ℕ) (H : Hosts W) (Alike
 
   made-kept : (cs : List (ℕ × ℕ)) (a : H .State) (s : D .S) → Clocks cs → Rest s → Kept (made W D H cs a s) 159999
   made-kept cs a s c q = record {
-      stands = idle (made W D H cs a s .bus) (armeds W (fresh-masters W cs)) s (watch 0 false [] (spell None [])) (made-cells W cs) (ap (λ ms. bus W D true true false ms s None 0) (made-looks W cs)) (made-armeds W cs) (made-timed W cs c) (made-holding W cs) q (λ j t e. nobody-armed j t e);
-      hosts = refl;
-      wanted = λ j t e. nobody-armed j t e;
-      arms = let z = made-count W cs in omega arith }
+    stands = idle (made W D H cs a s .bus) (armeds W (fresh-masters W cs)) s (watch 0 false [] (spell None [])) (made-cells W cs) (ap (λ ms. bus W D true true false ms s None 0) (made-looks W cs)) (made-armeds W cs) (made-timed W cs c) (made-holding W cs) q (λ j t e. nobody-armed j t e);
+    hosts = refl;
+    wanted = λ j t e. nobody-armed j t e;
+    arms = let z = made-count W cs in omega arith;
+  }
     where
       nobody-armed : {X : Type 0} (j : ℕ) (t : W .Task) → at (armeds W (fresh-masters W cs)) j ≡ Some t → X
       nobody-armed j t e = let z : None ≡ Some t = sym (made-unarmed W cs j) ∙ e in let y : _≡_ {A = ℕ} 0 1 = cc in absurd (omega arith)
@@ -227,18 +228,20 @@ module _ (W : Script) (D : Side) (left : W .Cursor → ℕ) (H : Hosts W) (Alike
 
   keeps-arm : (x : Use W D H) (n i : ℕ) → Kept W D left H Alike Fits Rest x n → Kept W D left H Alike Fits Rest (does W D left H x (arms i)) n
   keeps-arm x n i k = record {
-      stands = subst (λ a. Stands W D left Alike Fits Rest (does W D left H x (arms i) .bus) (arm-book (x .book .armed) (H .wants a) i) (x .book .side) (x .book .turn) (x .watch) n) (k .hosts)
-          (arm-stands W D left Alike Fits Rest (H .wants (x .hosts)) (plays .wants (x .hosts)) i (x .bus) (x .book .armed) (x .book .side) (x .book .turn) (x .watch) n (k .stands));
-      hosts = k .hosts;
-      wanted = wanted-arm (H .wants (x .book .hosts)) (x .book .armed) i (k .wanted);
-      arms = let a = ap accepted (answers-as x n i k) in let b = count-arm (x .book .armed) (H .wants (x .book .hosts)) i in let c = k .arms in omega arith }
+    stands = subst (λ a. Stands W D left Alike Fits Rest (does W D left H x (arms i) .bus) (arm-book (x .book .armed) (H .wants a) i) (x .book .side) (x .book .turn) (x .watch) n) (k .hosts)
+        (arm-stands W D left Alike Fits Rest (H .wants (x .hosts)) (plays .wants (x .hosts)) i (x .bus) (x .book .armed) (x .book .side) (x .book .turn) (x .watch) n (k .stands));
+    hosts = k .hosts;
+    wanted = wanted-arm (H .wants (x .book .hosts)) (x .book .armed) i (k .wanted);
+    arms = let a = ap accepted (answers-as x n i k) in let b = count-arm (x .book .armed) (H .wants (x .book .hosts)) i in let c = k .arms in omega arith;
+  }
 
   keeps-tick : (x : Use W D H) (n h : ℕ) (b : h ≤ 255) (k : Kept W D left H Alike Fits Rest x n) → Kept W D left H Alike Fits Rest (does W D left H x (ticks h)) (fine x n h b k .due)
   keeps-tick x n h b k = let f = fine x n h b k in record {
-      stands = f .stands;
-      hosts = ap₂ (H .hear) (k .hosts) (f .tells) ∙ hears (x .book) (tick-event W D (x .bus));
-      wanted = wanted-fed (x .book) (tick-event W D (x .bus)) (k .wanted);
-      arms = let a = f .counts in let c = ap count (f .tells) in let d = k .arms in omega arith }
+    stands = f .stands;
+    hosts = ap₂ (H .hear) (k .hosts) (f .tells) ∙ hears (x .book) (tick-event W D (x .bus));
+    wanted = wanted-fed (x .book) (tick-event W D (x .bus)) (k .wanted);
+    arms = let a = f .counts in let c = ap count (f .tells) in let d = k .arms in omega arith;
+  }
 
   keeps : (us : List Step) → Held us → (x : Use W D H) (n : ℕ) → Kept W D left H Alike Fits Rest x n → (m : ℕ) × Kept W D left H Alike Fits Rest (uses W D left H x us) m
   keeps [] h x n k = (n, k)
@@ -253,6 +256,7 @@ module _ (W : Script) (D : Side) (left : W .Cursor → ℕ) (H : Hosts W) (Alike
     where
       g : does W D left H x (ticks t) .told ≤ uses W D left H (does W D left H x (ticks t)) us .told
       g = told-grows W D left H (does W D left H x (ticks t)) us
+
       go : (1 ≤ count (book-tells W D left H (x .book) (tick-event W D (x .bus)))) ⊎ (((fine x n t (h .0) k .due < n) × (feed W D left H (x .book) (tick-event W D (x .bus)) .armed ≡ x .book .armed)) ⊎ (any (x .book .armed) ≡ false)) →
           (any (feed W D left H (x .book) (tick-event W D (x .bus)) .armed) ≡ true → fine x n t (h .0) k .due < ticks-of us → does W D left H x (ticks t) .told < uses W D left H (does W D left H x (ticks t)) us .told) →
           x .told < uses W D left H (does W D left H x (ticks t)) us .told
@@ -271,10 +275,12 @@ module _ (W : Script) (D : Side) (left : W .Cursor → ℕ) (H : Hosts W) (Alike
           wanted = k .wanted;
           side = stands-side W D left Alike Fits Rest (x .bus) (x .book .armed) (x .book .side) (x .book .turn) (x .watch) n st;
           arms = k .arms;
-          out = stands-out W D left Alike Fits Rest (x .bus) (x .book .armed) (x .book .side) (x .book .turn) (x .watch) n st };
+          out = stands-out W D left Alike Fits Rest (x .bus) (x .book .armed) (x .book .side) (x .book .turn) (x .watch) n st;
+        };
         arming = λ i. answers-as x n i k;
         ticking = record { tells = f .tells; loses = f .loses; stops = f .stops; spelled = f .spelled };
-        told = λ a us h l. tells-in us h x n k a (let z = stands-left W D left Alike Fits Rest (x .bus) (x .book .armed) (x .book .side) (x .book .turn) (x .watch) n st in omega arith) }
+        told = λ a us h l. tells-in us h x n k a (let z = stands-left W D left Alike Fits Rest (x .bus) (x .book .armed) (x .book .side) (x .book .turn) (x .watch) n st in omega arith);
+      }
 
   -- the law, at every point of every use from the making
   pub every-use : (cs : List (ℕ × ℕ)) (a : H .State) (s : D .S) → Clocks cs → Rest s → Every-use W D left H (made W D H cs a s)

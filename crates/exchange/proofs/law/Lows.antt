@@ -59,7 +59,7 @@ module _ (W : Script) (D : Side) where
       let c : n - e - 1 ≡ n - (e + 1) = omega arith in
       let l : levels W D (Low W D d cs s n e) ≡ lines false (carries W D cs s) = cc in
       via W D (Low W D d cs s n e) (Low W D (carries W D cs s) cs s n (e + 1)) (lines false (carries W D cs s)) h l
-        (ap₂ (λ ms j. bus W D false (carries W D cs s) true ms s None j) (lowered-step W cs e) c)
+      (ap₂ (λ ms j. bus W D false (carries W D cs s) true ms s None j) (lowered-step W cs e) c)
 
   pub low-rises : (d : Bool) (cs : List (Cell W)) (s : D .S) (n e h : ℕ) → held W D cs n e ≡ false →
       tick W D (Low W D d cs s n e) h ≡ Fresh W D (carries W D cs s) cs s
@@ -71,5 +71,5 @@ module _ (W : Script) (D : Side) where
       let r = rising W cs (carries W D cs s) in
       let l : levels W D (Low W D d cs s n e) ≡ lines true (carries W D cs s) = cc in
       via W D (Low W D d cs s n e) (Fresh W D (carries W D cs s) cs s) (lines true (carries W D cs s)) h l
-        (ap₂ (λ ms j. bus W D true (carries W D cs s) true (masters-step W ms (shown (Rise (carries W D cs s)) None false)) s (Some (carries W D cs s)) j) g c
-          ∙ ap (λ ms. bus W D true (carries W D cs s) true ms s (Some (carries W D cs s)) 0) r)
+      (ap₂ (λ ms j. bus W D true (carries W D cs s) true (masters-step W ms (shown (Rise (carries W D cs s)) None false)) s (Some (carries W D cs s)) j) g c
+      ∙ ap (λ ms. bus W D true (carries W D cs s) true ms s (Some (carries W D cs s)) 0) r)

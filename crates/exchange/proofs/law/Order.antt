@@ -58,8 +58,9 @@ module _ (W : Script) where
   lead-shown [] = inl refl
   lead-shown (None ∷ l) = elim (lead-shown l) [ inl e ↦ inl e | inr h ↦ inr (suc (h .0), h .1) ]
   lead-shown (Some p ∷ l) = elim (lower-either (W .symbol p) (lead W l)) [
-      inl e ↦ inr (0, (p, refl, sym e))
-    | inr e ↦ elim (lead-shown l) [ inl d ↦ inl (e ∙ d) | inr h ↦ inr (suc (h .0), (h .1 .0, h .1 .1, h .1 .2 ∙ sym e)) ] ]
+    | inl e ↦ inr (0, (p, refl, sym e))
+    | inr e ↦ elim (lead-shown l) [ inl d ↦ inl (e ∙ d) | inr h ↦ inr (suc (h .0), (h .1 .0, h .1 .1, h .1 .2 ∙ sym e)) ]
+  ]
 
   pub at-keep : (x : Symbol) (b : Bool) (l : List (Option (W .Cursor))) (i : ℕ) → at (keep-all W x b l) i ≡ keep W x b (at l i)
   at-keep x b [] i = refl

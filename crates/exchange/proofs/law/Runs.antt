@@ -163,11 +163,12 @@ module _ (W : Script) (D : Side) (left : W .Cursor → ℕ) (Alike : W .Cursor �
   pub run-next : (l : List (Option (W .Cursor))) (s0 : D .S) (k r : ℕ) (ps : List (Option (W .Cursor))) (s : D .S) → Run W D left Alike l s0 k (suc r) ps s → ends (lead W ps) ≡ false →
       Run W D left Alike l s0 (suc k) r (keep-all W (lead W ps) (heard D (lead W ps) s) ps) (after D (lead W ps) s)
   run-next l s0 k r ps s h e = record {
-      runs = slots-last W D k (opened W D l s0) ∙ ap (slot W D) (h .runs) ∙ moves W D ps s e;
-      fair = fair-next W D left Alike laws r ps s (h .fair) e;
-      quiet = λ i p a. let g = kept-at W D left Alike laws (lead W ps) (heard D (lead W ps) s) ps i p a in quiet-next (lead W ps) (g .was) p s (g .shows) (g .rest) e (h .quiet i (g .was) (g .there));
-      paired = h .paired;
-      sums = let z = h .sums in omega arith }
+    runs = slots-last W D k (opened W D l s0) ∙ ap (slot W D) (h .runs) ∙ moves W D ps s e;
+    fair = fair-next W D left Alike laws r ps s (h .fair) e;
+    quiet = λ i p a. let g = kept-at W D left Alike laws (lead W ps) (heard D (lead W ps) s) ps i p a in quiet-next (lead W ps) (g .was) p s (g .shows) (g .rest) e (h .quiet i (g .was) (g .there));
+    paired = h .paired;
+    sums = let z = h .sums in omega arith;
+  }
 
   pub some-left : (l : List (Option (W .Cursor))) (s0 : D .S) (k r : ℕ) (cs : List (Cell W)) (s : D .S) → Run W D left Alike l s0 k r (cursors W cs) s → alive W cs ≡ true → 1 ≤ r
   some-left l s0 k r cs s h v = let q = alive-at W cs v in omega (arith, laws .some-left (q .1 .0), h .fair .small (q .0) (q .1 .0) (q .1 .1))
@@ -180,16 +181,20 @@ module _ (W : Script) (D : Side) (left : W .Cursor → ℕ) (Alike : W .Cursor �
       go (inl a) (inl e) = absurd (omega (arith, ap rank e))
       go (inl a) (inr q) =
           let still : W .symbol (q .1 .0) ≡ Listen → ⊥ = λ e. omega (arith, ap rank e, ap rank (q .1 .2)) in
-          inr (every-at W (λ x. rank x ≤ 3) cs (λ i p e. elim (cases-lt (rank (W .symbol p)) 4) [
-                inl b ↦ omega arith
-              | inr b ↦ absurd (still (laws .both-listen p (q .1 .0) (h .fair .alike i (q .0) p (q .1 .0) e (q .1 .1)) (top-listens (W .symbol p) b))) ]),
-            h .quiet (q .0) (q .1 .0) (q .1 .1) 1 .0 still)
+          inr (
+            every-at W (λ x. rank x ≤ 3) cs (λ i p e. elim (cases-lt (rank (W .symbol p)) 4) [
+              | inl b ↦ omega arith
+              | inr b ↦ absurd (still (laws .both-listen p (q .1 .0) (h .fair .alike i (q .0) p (q .1 .0) e (q .1 .1)) (top-listens (W .symbol p) b)))
+            ]),
+            h .quiet (q .0) (q .1 .0) (q .1 .1) 1 .0 still,
+          )
 
   pub run-carries : (l : List (Option (W .Cursor))) (s0 : D .S) (k r : ℕ) (cs : List (Cell W)) (s : D .S) → Run W D left Alike l s0 k r (cursors W cs) s → heard D (lead W (cursors W cs)) s ≡ carries W D cs s
   run-carries l s0 k r cs s h =
       level D (lead W (cursors W cs)) s (λ n. elim (lead-shown W (cursors W cs)) [
-          inl e ↦ absurd (n e)
-        | inr q ↦ h .quiet (q .0) (q .1 .0) (q .1 .1) 1 .0 (λ e. n (sym (q .1 .2) ∙ e)) ])
+        | inl e ↦ absurd (n e)
+        | inr q ↦ h .quiet (q .0) (q .1 .0) (q .1 .1) 1 .0 (λ e. n (sym (q .1 .2) ∙ e))
+      ])
       ∙ ap (λ b. not (b || D .pulls s)) (sym (some-lead W cs))
 
   -- the next slot, by the cells
@@ -199,7 +204,7 @@ module _ (W : Script) (D : Side) (left : W .Cursor → ℕ) (Alike : W .Cursor �
       let x = lead W (cursors W cs) in
       let a : rank x ≡ n = leads W cs v ∙ e in
       subst (λ ps. Run W D left Alike l s0 (suc k) r ps (after D x s)) (ap (λ b. keep-all W x b (cursors W cs)) (run-carries l s0 k (suc r) cs s h) ∙ keep-cells W x n (carries W D cs s) cs a)
-        (run-next l s0 k r (cursors W cs) s h (ends-rank x (λ z. d (sym a ∙ z))))
+      (run-next l s0 k r (cursors W cs) s h (ends-rank x (λ z. d (sym a ∙ z))))
 
   pub run-bit : (l : List (Option (W .Cursor))) (s0 : D .S) (k r : ℕ) (cs : List (Cell W)) (s : D .S) (n : ℕ) → Run W D left Alike l s0 k (suc r) (cursors W cs) s → alive W cs ≡ true → least W cs ≡ n → (n ≡ 1 → ⊥) → (n ≡ 2 → ⊥) →
       Run W D left Alike l s0 (suc k) r (cursors W (advance W (carries W D cs s) (stay W n cs))) (D .bit s (carries W D cs s))
@@ -207,12 +212,12 @@ module _ (W : Script) (D : Side) (left : W .Cursor → ℕ) (Alike : W .Cursor �
       let x = lead W (cursors W cs) in
       let a : rank x ≡ n = leads W cs v ∙ e in
       subst (λ t. Run W D left Alike l s0 (suc k) r (cursors W (advance W (carries W D cs s) (stay W n cs))) t)
-        (after-bit D x s (λ z. d1 (sym a ∙ z)) (λ z. d2 (sym a ∙ z)) ∙ ap (D .bit s) (run-carries l s0 k (suc r) cs s h))
-        (run-cells l s0 k r cs s n h v e d1)
+      (after-bit D x s (λ z. d1 (sym a ∙ z)) (λ z. d2 (sym a ∙ z)) ∙ ap (D .bit s) (run-carries l s0 k (suc r) cs s h))
+      (run-cells l s0 k r cs s n h v e d1)
 
   pub run-again : (l : List (Option (W .Cursor))) (s0 : D .S) (k r : ℕ) (cs : List (Cell W)) (s : D .S) → Run W D left Alike l s0 k (suc r) (cursors W cs) s → alive W cs ≡ true → least W cs ≡ 2 →
       Run W D left Alike l s0 (suc k) r (cursors W (advance W (carries W D cs s) (stay W 2 cs))) (D .begin s)
   run-again l s0 k r cs s h v e =
       let x = lead W (cursors W cs) in
       subst (λ t. Run W D left Alike l s0 (suc k) r (cursors W (advance W (carries W D cs s) (stay W 2 cs))) t)
-        (after-again D x s (leads W cs v ∙ e)) (run-cells l s0 k r cs s 2 h v e (omega arith))
+      (after-again D x s (leads W cs v ∙ e)) (run-cells l s0 k r cs s 2 h v e (omega arith))

@@ -9,7 +9,7 @@ use Rattle.std.proofs.shelf.Ways.{tells}
 use Rattle.exchange.specs.declared.symbol.Symbol.{Symbol}
 use Rattle.exchange.specs.Masters.{MasterModel}
 use Rattle.exchange.specs.Scripts.{Script}
-use Rattle.exchange.proofs.law.Phases.{rank, holds, Cell, out, live, some, alive, Every, Times, Timed, who, least, stay-if, stay, advance, done-if, finished}
+use Rattle.exchange.proofs.law.Phases.{rank, holds, Cell, out, live, some, alive, Times, Timed, who, least, stay-if, stay, advance, done-if, finished}
 use Rattle.exchange.proofs.law.Lists.{rank-top, some-false, every, least-some, least-below}
 
 module _ (W : Script) where

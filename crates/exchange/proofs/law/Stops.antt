@@ -156,6 +156,7 @@ module _ (W : Script) (D : Side) (left : W .Cursor → ℕ) (Alike : W .Cursor �
             where
               wins-if : (y : Bool) → eqb (rank (lead W (cursors W cs))) (rank (W .symbol p)) ≡ y → wins W D left q (leader W D left l s0) s0 ≡ y
               wins-if y e = v ∙ ap (λ z. isSome (cond z (Some (W .next p (heard D (lead W (cursors W cs)) s))) None)) e ∙ told-is y (W .next p (heard D (lead W (cursors W cs)) s))
+
               two : (y : Bool) → eqb (rank (lead W (cursors W cs))) (rank (W .symbol p)) ≡ y → names W (Some p) ≡ cond (wins W D left q (leader W D left l s0) s0) (Some (task-outcome W D left q s0)) None
               two true e =
                   let g : rank (W .symbol p) ≡ rank (lead W (cursors W cs)) = sym (eqb-true (rank (lead W (cursors W cs))) (rank (W .symbol p)) e) in

@@ -312,29 +312,32 @@ module _ (W : Script) (D : Side) (H : Hosts W) where
 
   abbrev pub made : List (ℕ × ℕ) → H .State → D .S → Use
   made cs a s = record {
-      hosts = a;
-      bus = record { wire = quiet-wire; masters = fresh-masters W cs; side = s; hold = 0 };
-      book = book W D H a (armeds W (fresh-masters W cs)) s None;
-      watch = watch 0 false [] (spell None []);
-      arms = 0;
-      told = 0 }
+    hosts = a;
+    bus = record { wire = quiet-wire; masters = fresh-masters W cs; side = s; hold = 0 };
+    book = book W D H a (armeds W (fresh-masters W cs)) s None;
+    watch = watch 0 false [] (spell None []);
+    arms = 0;
+    told = 0;
+  }
 
 module _ (W : Script) (D : Side) (left : W .Cursor → ℕ) (H : Hosts W) where
   abbrev pub does : Use W D H → Step → Use W D H
   does x (arms i) = record {
-      hosts = x .hosts;
-      bus = arm-bus W D (x .bus) (H .wants (x .hosts)) i;
-      book = feed-arm W D H (x .book) i;
-      watch = x .watch;
-      arms = x .arms + accepted (arm-answer W (x .bus .masters) (H .wants (x .hosts)) i);
-      told = x .told }
+    hosts = x .hosts;
+    bus = arm-bus W D (x .bus) (H .wants (x .hosts)) i;
+    book = feed-arm W D H (x .book) i;
+    watch = x .watch;
+    arms = x .arms + accepted (arm-answer W (x .bus .masters) (H .wants (x .hosts)) i);
+    told = x .told;
+  }
   does x (ticks h) = record {
-      hosts = H .hear (x .hosts) (tick-tells W D (x .bus));
-      bus = tick W D (x .bus) h;
-      book = feed W D left H (x .book) (tick-event W D (x .bus));
-      watch = sees W (x .watch) (x .book .armed) (x .book .turn) (tick-event W D (x .bus)) (tick-verdicts W D (x .bus));
-      arms = x .arms;
-      told = x .told + count (tick-tells W D (x .bus)) }
+    hosts = H .hear (x .hosts) (tick-tells W D (x .bus));
+    bus = tick W D (x .bus) h;
+    book = feed W D left H (x .book) (tick-event W D (x .bus));
+    watch = sees W (x .watch) (x .book .armed) (x .book .turn) (tick-event W D (x .bus)) (tick-verdicts W D (x .bus));
+    arms = x .arms;
+    told = x .told + count (tick-tells W D (x .bus));
+  }
 
   abbrev pub uses : Use W D H → List Step → Use W D H
   uses x [] = x
