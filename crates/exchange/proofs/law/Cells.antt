@@ -14,7 +14,7 @@ use Rattle.exchange.specs.Masters.{ArmingModel, unarmed, armed, MasterModel, V
 use Rattle.exchange.specs.Scripts.{Script}
 use Rattle.exchange.proofs.law.Phases.{rank, Cell, out, live, off, looks, notes, cursor, cursors, some, alive, Every, Times, Timed, who, stay-if, stay, advance, done-if, finished, claim, claim-all}
 use Rattle.exchange.proofs.law.Race.{at}
-use Rattle.exchange.proofs.law.Uses.{count, any, armed-if, arm-book, nobody, task-of, armeds, pulling, is-lost, telling, tellings, arm-masters, begin-one, begins, falses, marks-too}
+use Rattle.exchange.proofs.law.Uses.{Tasks, count, any, armed-if, arm-book, nobody, task-of, armeds, pulling, is-lost, telling, tellings, arm-masters, begin-one, begins, falses, marks-too}
 
 pub armed-same : {A : Type 0} → (o w : Option A) → isSome o ≡ true → armed-if o w ≡ o
 armed-same None w h = let z : _≡_ {A = ℕ} 0 1 = cc in absurd (omega arith)
@@ -48,7 +48,7 @@ abbrev pub never : Symbol → Bool
 never x = false
 
 module _ (W : Script) where
-  abbrev pub cell-armeds : List (Cell W) → List (Option (W .Task))
+  abbrev pub cell-armeds : List (Cell W) → Tasks W
   cell-armeds [] = []
   cell-armeds (c ∷ cs) = task-of W (who W c .arming) ∷ cell-armeds cs
 
@@ -59,7 +59,7 @@ module _ (W : Script) where
   Holding (live m p ∷ cs) = (isSome (task-of W (m .arming)) ≡ true) × Holding cs
 
   -- who is live is a contender
-  abbrev pub Within : List (Option (W .Task)) → List (Cell W) → Type 0
+  abbrev pub Within : Tasks W → List (Cell W) → Type 0
   Within [] [] = Unit {0}
   Within [] (c ∷ cs) = ⊥
   Within (o ∷ l) [] = ⊥
@@ -71,7 +71,7 @@ module _ (W : Script) where
   gone f (live m p) = f (W .symbol p)
 
   -- the contenders that are out, or live and pass the test f
-  abbrev pub marked : (Symbol → Bool) → List (Option (W .Task)) → List (Cell W) → List Bool
+  abbrev pub marked : (Symbol → Bool) → Tasks W → List (Cell W) → List Bool
   marked f [] cs = []
   marked f (o ∷ l) [] = []
   marked f (o ∷ l) (c ∷ cs) = (isSome o && gone f c) ∷ marked f l cs
@@ -105,18 +105,18 @@ module _ (W : Script) where
   holding-advance b (out m ∷ cs) h = holding-advance b cs h
   holding-advance b (live m p ∷ cs) h = (h .0, holding-advance b cs (h .1))
 
-  stay-within : (v : Bool) (m : MasterModel W) (p : W .Cursor) (o : Option (W .Task)) (l : List (Option (W .Task))) (cs : List (Cell W)) → isSome o ≡ true → Within l cs → Within (o ∷ l) (stay-if W v m p ∷ cs)
+  stay-within : (v : Bool) (m : MasterModel W) (p : W .Cursor) (o : Option (W .Task)) (l : Tasks W) (cs : List (Cell W)) → isSome o ≡ true → Within l cs → Within (o ∷ l) (stay-if W v m p ∷ cs)
   stay-within true m p o l cs h g = (h, g)
   stay-within false m p o l cs h g = g
 
-  pub within-stay : (n : ℕ) (l : List (Option (W .Task))) (cs : List (Cell W)) → Within l cs → Within l (stay W n cs)
+  pub within-stay : (n : ℕ) (l : Tasks W) (cs : List (Cell W)) → Within l cs → Within l (stay W n cs)
   within-stay n [] [] h = tt
   within-stay n [] (c ∷ cs) h = absurd h
   within-stay n (o ∷ l) [] h = h
   within-stay n (o ∷ l) (out m ∷ cs) h = within-stay n l cs h
   within-stay n (o ∷ l) (live m p ∷ cs) h = stay-within (eqb (rank (W .symbol p)) n) m p o l (stay W n cs) (h .0) (within-stay n l cs (h .1))
 
-  pub within-advance : (b : Bool) (l : List (Option (W .Task))) (cs : List (Cell W)) → Within l cs → Within l (advance W b cs)
+  pub within-advance : (b : Bool) (l : Tasks W) (cs : List (Cell W)) → Within l cs → Within l (advance W b cs)
   within-advance b [] [] h = tt
   within-advance b [] (c ∷ cs) h = absurd h
   within-advance b (o ∷ l) [] h = h
@@ -166,7 +166,7 @@ module _ (W : Script) where
   holding-claim [] = tt
   holding-claim (c ∷ cs) = claim-holding (who W c) (who W c .arming) (claim-all W cs) refl (holding-claim cs)
 
-  claim-within : (m : MasterModel W) (a : ArmingModel W) (l : List (Option (W .Task))) (cs : List (Cell W)) → Within l cs → Within (task-of W a ∷ l) (claim W m a ∷ cs)
+  claim-within : (m : MasterModel W) (a : ArmingModel W) (l : Tasks W) (cs : List (Cell W)) → Within l cs → Within (task-of W a ∷ l) (claim W m a ∷ cs)
   claim-within m unarmed l cs h = h
   claim-within m (armed t) l cs h = (refl, h)
 
@@ -192,7 +192,7 @@ module _ (W : Script) where
 
   -- who was marked, after verdicts and after a slot; g: whom the verdicts mark
   pub marked-more : (f g : Symbol → Bool) (k : Symbol → W .Cursor → VerdictModel W) (each : (x : Symbol) (p : W .Cursor) → is-lost W (k x p) ≡ g x)
-      (l : List (Option (W .Task))) (cs : List (Cell W)) → Within l cs → marks-too W (marked f l cs) (notes W k cs) ≡ marked (λ x. f x || g x) l cs
+      (l : Tasks W) (cs : List (Cell W)) → Within l cs → marks-too W (marked f l cs) (notes W k cs) ≡ marked (λ x. f x || g x) l cs
   marked-more f g k each [] [] h = refl
   marked-more f g k each [] (c ∷ cs) h = absurd h
   marked-more f g k each (o ∷ l) [] h = absurd h
@@ -204,13 +204,13 @@ module _ (W : Script) where
   stay-marked true a m p h = h
   stay-marked false a m p h = h
 
-  pub marked-stay : (f : Symbol → Bool) (n : ℕ) (l : List (Option (W .Task))) (cs : List (Cell W)) → Every W (λ x. f x ≡ not (eqb (rank x) n)) cs → marked f l cs ≡ marked never l (stay W n cs)
+  pub marked-stay : (f : Symbol → Bool) (n : ℕ) (l : Tasks W) (cs : List (Cell W)) → Every W (λ x. f x ≡ not (eqb (rank x) n)) cs → marked f l cs ≡ marked never l (stay W n cs)
   marked-stay f n [] cs h = refl
   marked-stay f n (o ∷ l) [] h = refl
   marked-stay f n (o ∷ l) (out m ∷ cs) h = ap (λ v. (isSome o && true) ∷ v) (marked-stay f n l cs h)
   marked-stay f n (o ∷ l) (live m p ∷ cs) h = ap₂ (λ a v. (isSome o && a) ∷ v) (stay-marked (eqb (rank (W .symbol p)) n) (f (W .symbol p)) m p (h .0)) (marked-stay f n l cs (h .1))
 
-  pub marked-advance : (b : Bool) (l : List (Option (W .Task))) (cs : List (Cell W)) → marked never l (advance W b cs) ≡ marked never l cs
+  pub marked-advance : (b : Bool) (l : Tasks W) (cs : List (Cell W)) → marked never l (advance W b cs) ≡ marked never l cs
   marked-advance b [] cs = refl
   marked-advance b (o ∷ l) [] = refl
   marked-advance b (o ∷ l) (out m ∷ cs) = ap (λ v. (isSome o && true) ∷ v) (marked-advance b l cs)
@@ -224,7 +224,7 @@ module _ (W : Script) where
   note-at k (out m ∷ cs) (suc i) h = note-at k cs i h
   note-at k (live m p ∷ cs) (suc i) h = note-at k cs i h
 
-  pub unmarked : (f : Symbol → Bool) (l : List (Option (W .Task))) (cs : List (Cell W)) (i : ℕ) (p : W .Cursor) → at (cursors W cs) i ≡ Some p → f (W .symbol p) ≡ false → getD (marked f l cs) i false ≡ false
+  pub unmarked : (f : Symbol → Bool) (l : Tasks W) (cs : List (Cell W)) (i : ℕ) (p : W .Cursor) → at (cursors W cs) i ≡ Some p → f (W .symbol p) ≡ false → getD (marked f l cs) i false ≡ false
   unmarked f [] cs i p e h = refl
   unmarked f (o ∷ l) [] i p e h = refl
   unmarked f (o ∷ l) (out m ∷ cs) zero p e h = let z : _≡_ {A = ℕ} 0 1 = cc in absurd (omega arith)
@@ -232,7 +232,7 @@ module _ (W : Script) where
   unmarked f (o ∷ l) (out m ∷ cs) (suc i) p e h = unmarked f l cs i p e h
   unmarked f (o ∷ l) (live m q ∷ cs) (suc i) p e h = unmarked f l cs i p e h
 
-  pub contender : (l : List (Option (W .Task))) (cs : List (Cell W)) → Within l cs → (i : ℕ) (p : W .Cursor) → at (cursors W cs) i ≡ Some p → (q : W .Task) × (at l i ≡ Some q)
+  pub contender : (l : Tasks W) (cs : List (Cell W)) → Within l cs → (i : ℕ) (p : W .Cursor) → at (cursors W cs) i ≡ Some p → (q : W .Task) × (at l i ≡ Some q)
   contender [] [] h i p e = let z : _≡_ {A = ℕ} 0 1 = cc in absurd (omega arith)
   contender [] (c ∷ cs) h i p e = absurd h
   contender (o ∷ l) [] h i p e = absurd h
@@ -243,7 +243,7 @@ module _ (W : Script) where
 
   -- who was marked pulls nothing
   pub pulls-nothing : (f : Symbol → Bool) (g : MasterModel W → W .Cursor → MasterModel W) (each : (m : MasterModel W) (p : W .Cursor) → f (W .symbol p) ≡ true → (g m p .pulls .scl || g m p .pulls .sda) ≡ false)
-      (l : List (Option (W .Task))) (cs : List (Cell W)) (i : ℕ) → getD (marked f l cs) i false ≡ true → pulling W (looks W g cs) i ≡ false
+      (l : Tasks W) (cs : List (Cell W)) (i : ℕ) → getD (marked f l cs) i false ≡ true → pulling W (looks W g cs) i ≡ false
   pulls-nothing f g each [] cs i h = let z : _≡_ {A = ℕ} 0 1 = cc in absurd (omega arith)
   pulls-nothing f g each (o ∷ l) [] i h = let z : _≡_ {A = ℕ} 0 1 = cc in absurd (omega arith)
   pulls-nothing f g each (o ∷ l) (out m ∷ cs) zero h = refl
@@ -268,7 +268,7 @@ module _ (W : Script) where
   arm-cell (out m) w = out (arm-master W m w .1)
   arm-cell (live m p) w = live m p
 
-  abbrev pub arm-cells : List (Cell W) → List (Option (W .Task)) → ℕ → List (Cell W)
+  abbrev pub arm-cells : List (Cell W) → Tasks W → ℕ → List (Cell W)
   arm-cells [] ws i = []
   arm-cells (c ∷ cs) [] i = c ∷ cs
   arm-cells (c ∷ cs) (w ∷ ws) zero = arm-cell c w ∷ cs
@@ -294,7 +294,7 @@ module _ (W : Script) where
   arm-times m (armed x) w t = t
 
   pub arm-looks : (f : MasterModel W → W .Cursor → MasterModel W) (keeps : (m : MasterModel W) (p : W .Cursor) → f m p .arming ≡ m .arming)
-      (cs : List (Cell W)) (ws : List (Option (W .Task))) (i : ℕ) → Holding W cs → arm-masters W (looks W f cs) ws i ≡ looks W f (arm-cells cs ws i)
+      (cs : List (Cell W)) (ws : Tasks W) (i : ℕ) → Holding W cs → arm-masters W (looks W f cs) ws i ≡ looks W f (arm-cells cs ws i)
   arm-looks f keeps [] ws i h = refl
   arm-looks f keeps (c ∷ cs) [] i h = refl
   arm-looks f keeps (out m ∷ cs) (w ∷ ws) zero h = ap (λ x. x ∷ looks W f cs) (arm-off m (m .arming) w)
@@ -302,7 +302,7 @@ module _ (W : Script) where
   arm-looks f keeps (out m ∷ cs) (w ∷ ws) (suc i) h = ap (λ l. off W m ∷ l) (arm-looks f keeps cs ws i h)
   arm-looks f keeps (live m p ∷ cs) (w ∷ ws) (suc i) h = ap (λ l. f m p ∷ l) (arm-looks f keeps cs ws i (h .1))
 
-  pub arm-armeds : (cs : List (Cell W)) (ws : List (Option (W .Task))) (i : ℕ) → Holding W cs → arm-book (cell-armeds W cs) ws i ≡ cell-armeds W (arm-cells cs ws i)
+  pub arm-armeds : (cs : List (Cell W)) (ws : Tasks W) (i : ℕ) → Holding W cs → arm-book (cell-armeds W cs) ws i ≡ cell-armeds W (arm-cells cs ws i)
   arm-armeds [] ws i h = refl
   arm-armeds (c ∷ cs) [] i h = refl
   arm-armeds (out m ∷ cs) (w ∷ ws) zero h = ap (λ x. x ∷ cell-armeds W cs) (arm-task m (m .arming) w refl)
@@ -310,14 +310,14 @@ module _ (W : Script) where
   arm-armeds (out m ∷ cs) (w ∷ ws) (suc i) h = ap (λ l. task-of W (m .arming) ∷ l) (arm-armeds cs ws i h)
   arm-armeds (live m p ∷ cs) (w ∷ ws) (suc i) h = ap (λ l. task-of W (m .arming) ∷ l) (arm-armeds cs ws i (h .1))
 
-  pub arm-timed : (cs : List (Cell W)) (ws : List (Option (W .Task))) (i : ℕ) → Timed W cs → Timed W (arm-cells cs ws i)
+  pub arm-timed : (cs : List (Cell W)) (ws : Tasks W) (i : ℕ) → Timed W cs → Timed W (arm-cells cs ws i)
   arm-timed [] ws i t = tt
   arm-timed (c ∷ cs) [] i t = t
   arm-timed (out m ∷ cs) (w ∷ ws) zero t = (arm-times m (m .arming) w (t .0), t .1)
   arm-timed (live m p ∷ cs) (w ∷ ws) zero t = t
   arm-timed (c ∷ cs) (w ∷ ws) (suc i) t = (t .0, arm-timed cs ws i (t .1))
 
-  pub arm-holding : (cs : List (Cell W)) (ws : List (Option (W .Task))) (i : ℕ) → Holding W cs → Holding W (arm-cells cs ws i)
+  pub arm-holding : (cs : List (Cell W)) (ws : Tasks W) (i : ℕ) → Holding W cs → Holding W (arm-cells cs ws i)
   arm-holding [] ws i h = tt
   arm-holding (c ∷ cs) [] i h = h
   arm-holding (out m ∷ cs) (w ∷ ws) zero h = h
@@ -325,7 +325,7 @@ module _ (W : Script) where
   arm-holding (out m ∷ cs) (w ∷ ws) (suc i) h = arm-holding cs ws i h
   arm-holding (live m p ∷ cs) (w ∷ ws) (suc i) h = (h .0, arm-holding cs ws i (h .1))
 
-  pub arm-within : (l : List (Option (W .Task))) (cs : List (Cell W)) (ws : List (Option (W .Task))) (i : ℕ) → Within W l cs → Within W l (arm-cells cs ws i)
+  pub arm-within : (l : Tasks W) (cs : List (Cell W)) (ws : Tasks W) (i : ℕ) → Within W l cs → Within W l (arm-cells cs ws i)
   arm-within [] [] ws i h = tt
   arm-within [] (c ∷ cs) ws i h = absurd h
   arm-within (o ∷ l) [] ws i h = absurd h
@@ -335,7 +335,7 @@ module _ (W : Script) where
   arm-within (o ∷ l) (out m ∷ cs) (w ∷ ws) (suc i) h = arm-within l cs ws i h
   arm-within (o ∷ l) (live m p ∷ cs) (w ∷ ws) (suc i) h = (h .0, arm-within l cs ws i (h .1))
 
-  pub arm-some : (f : Symbol → Bool) (cs : List (Cell W)) (ws : List (Option (W .Task))) (i : ℕ) → some W f (arm-cells cs ws i) ≡ some W f cs
+  pub arm-some : (f : Symbol → Bool) (cs : List (Cell W)) (ws : Tasks W) (i : ℕ) → some W f (arm-cells cs ws i) ≡ some W f cs
   arm-some f [] ws i = refl
   arm-some f (c ∷ cs) [] i = refl
   arm-some f (out m ∷ cs) (w ∷ ws) zero = refl
@@ -343,14 +343,14 @@ module _ (W : Script) where
   arm-some f (out m ∷ cs) (w ∷ ws) (suc i) = arm-some f cs ws i
   arm-some f (live m p ∷ cs) (w ∷ ws) (suc i) = ap (λ v. f (W .symbol p) || v) (arm-some f cs ws i)
 
-  pub arm-cursors : (cs : List (Cell W)) (ws : List (Option (W .Task))) (i : ℕ) → cursors W (arm-cells cs ws i) ≡ cursors W cs
+  pub arm-cursors : (cs : List (Cell W)) (ws : Tasks W) (i : ℕ) → cursors W (arm-cells cs ws i) ≡ cursors W cs
   arm-cursors [] ws i = refl
   arm-cursors (c ∷ cs) [] i = refl
   arm-cursors (out m ∷ cs) (w ∷ ws) zero = refl
   arm-cursors (live m p ∷ cs) (w ∷ ws) zero = refl
   arm-cursors (c ∷ cs) (w ∷ ws) (suc i) = ap (λ l. cursor W c ∷ l) (arm-cursors cs ws i)
 
-  pub arm-marked : (f : Symbol → Bool) (l : List (Option (W .Task))) (cs : List (Cell W)) (ws : List (Option (W .Task))) (i : ℕ) → marked W f l cs ≡ marked W f l (arm-cells cs ws i)
+  pub arm-marked : (f : Symbol → Bool) (l : Tasks W) (cs : List (Cell W)) (ws : Tasks W) (i : ℕ) → marked W f l cs ≡ marked W f l (arm-cells cs ws i)
   arm-marked f [] cs ws i = refl
   arm-marked f (o ∷ l) [] ws i = refl
   arm-marked f (o ∷ l) (c ∷ cs) [] i = refl
@@ -358,7 +358,7 @@ module _ (W : Script) where
   arm-marked f (o ∷ l) (live m p ∷ cs) (w ∷ ws) zero = refl
   arm-marked f (o ∷ l) (c ∷ cs) (w ∷ ws) (suc i) = ap (λ v. (isSome o && gone W f c) ∷ v) (arm-marked f l cs ws i)
 
-  pub arm-advance : (b : Bool) (cs : List (Cell W)) (ws : List (Option (W .Task))) (i : ℕ) → cursors W (advance W b (arm-cells cs ws i)) ≡ cursors W (advance W b cs)
+  pub arm-advance : (b : Bool) (cs : List (Cell W)) (ws : Tasks W) (i : ℕ) → cursors W (advance W b (arm-cells cs ws i)) ≡ cursors W (advance W b cs)
   arm-advance b [] ws i = refl
   arm-advance b (c ∷ cs) [] i = refl
   arm-advance b (out m ∷ cs) (w ∷ ws) zero = refl

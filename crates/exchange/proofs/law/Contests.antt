@@ -16,7 +16,7 @@ use Rattle.exchange.specs.Scripts.{Script}
 use Rattle.exchange.proofs.Sides.{Side, ends, heard, after, final}
 use Rattle.exchange.proofs.law.Phases.{rank}
 use Rattle.exchange.proofs.law.Race.{at, common, lexb, First, lead, keep, Joint, moved, slot, slots, opened, alone, alone-end, Laws}
-use Rattle.exchange.proofs.law.Uses.{same, begin-one, begins, task-string, pick, leader, wins, leader-side}
+use Rattle.exchange.proofs.law.Uses.{Tasks, same, begin-one, begins, task-string, pick, leader, wins, leader-side}
 use Rattle.exchange.proofs.law.Order.{rank-inj, at-keep}
 use Rattle.exchange.proofs.law.Fates.{not-end, next-live, next-side, slots-next, text, gone}
 use Rattle.exchange.proofs.law.Wins.{Arbitrated, settled, lexb-anti, most, common-whole}
@@ -37,23 +37,23 @@ same-refl [] = refl
 same-refl (t ∷ ts) = rw (eq-eqb t t refl) (same-refl ts)
 
 module _ (W : Script) where
-  pub at-begins : (l : List (Option (W .Task))) (i : ℕ) → at (begins W l) i ≡ begin-one W (at l i)
+  pub at-begins : (l : Tasks W) (i : ℕ) → at (begins W l) i ≡ begin-one W (at l i)
   at-begins [] i = refl
   at-begins (o ∷ l) zero = refl
   at-begins (o ∷ l) (suc i) = at-begins l i
 
-  pub begun-at : (l : List (Option (W .Task))) (i : ℕ) (t : W .Task) → at l i ≡ Some t → at (begins W l) i ≡ Some (W .begin t)
+  pub begun-at : (l : Tasks W) (i : ℕ) (t : W .Task) → at l i ≡ Some t → at (begins W l) i ≡ Some (W .begin t)
   begun-at l i t e = at-begins l i ∙ ap (begin-one W) e
 
   begun-from : (o : Option (W .Task)) (p : W .Cursor) → begin-one W o ≡ Some p → (t : W .Task) × (o ≡ Some t) × (W .begin t ≡ p)
   begun-from None p e = let z : _≡_ {A = ℕ} 0 1 = cc in absurd (omega arith)
   begun-from (Some t) p e = (t, refl, cc)
 
-  pub task-at : (l : List (Option (W .Task))) (i : ℕ) (p : W .Cursor) → at (begins W l) i ≡ Some p → (t : W .Task) × (at l i ≡ Some t) × (W .begin t ≡ p)
+  pub task-at : (l : Tasks W) (i : ℕ) (p : W .Cursor) → at (begins W l) i ≡ Some p → (t : W .Task) × (at l i ≡ Some t) × (W .begin t ≡ p)
   task-at l i p e = begun-from (at l i) p (sym (at-begins l i) ∙ e)
 
 module _ (W : Script) (D : Side) (left : W .Cursor → ℕ) where
-  pub leader-in : (l : List (Option (W .Task))) (s : D .S) (q : W .Task) → leader W D left l s ≡ Some q → (j : ℕ) × (at l j ≡ Some q)
+  pub leader-in : (l : Tasks W) (s : D .S) (q : W .Task) → leader W D left l s ≡ Some q → (j : ℕ) × (at l j ≡ Some q)
   leader-in [] s q e = let z : _≡_ {A = ℕ} 0 1 = cc in absurd (omega arith)
   leader-in (None ∷ l) s q e = let r = leader-in l s q e in (suc (r .0), r .1)
   leader-in (Some p ∷ l) s q e = go (leader W D left l s) refl e (leader-in l s)
@@ -67,7 +67,7 @@ module _ (W : Script) (D : Side) (left : W .Cursor → ℕ) where
           two false e = let x = ih r d in (suc (x .0), x .1 ∙ e)
 
   -- where t is below each string and somebody has it, the leader has it
-  leader-has : (t : List ℕ) (l : List (Option (W .Task))) (s : D .S) → ((i : ℕ) (p : W .Task) → at l i ≡ Some p → lexb t (task-string W D left p s) ≡ true) →
+  leader-has : (t : List ℕ) (l : Tasks W) (s : D .S) → ((i : ℕ) (p : W .Task) → at l i ≡ Some p → lexb t (task-string W D left p s) ≡ true) →
       (i : ℕ) (p : W .Task) → at l i ≡ Some p → task-string W D left p s ≡ t → (q : W .Task) × (leader W D left l s ≡ Some q) × (task-string W D left q s ≡ t)
   leader-has t [] s below i p e h = let z : _≡_ {A = ℕ} 0 1 = cc in absurd (omega arith)
   leader-has t (None ∷ l) s below zero p e h = let z : _≡_ {A = ℕ} 0 1 = cc in absurd (omega arith)
@@ -145,7 +145,7 @@ module _ (W : Script) (D : Side) (left : W .Cursor → ℕ) (Alike : W .Cursor �
   ]
 
   -- l: the contenders, t: the least of their strings
-  module _ (l : List (Option (W .Task))) (s0 : D .S) (k r : ℕ) (ps : List (Option (W .Cursor))) (s : D .S) (run : Run W D left Alike (begins W l) s0 k r ps s) where
+  module _ (l : Tasks W) (s0 : D .S) (k r : ℕ) (ps : List (Option (W .Cursor))) (s : D .S) (run : Run W D left Alike (begins W l) s0 k r ps s) where
     t : List ℕ
     t = text W D (most W D left Alike laws (begins W l)) (begins W l) s0
 

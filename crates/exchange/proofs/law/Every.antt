@@ -20,7 +20,7 @@ use Rattle.exchange.proofs.Sides.{Side}
 use Rattle.exchange.proofs.law.Machine.{Bus, tick, tick-event, tick-verdicts}
 use Rattle.exchange.proofs.law.Phases.{early-lost, Cell, out, looks, idling, claimed, opened, lowered, released, fresh, settled, Timed, bus, Claimed, Opened, Low, Fresh, Settled}
 use Rattle.exchange.proofs.law.Race.{at, Laws}
-use Rattle.exchange.proofs.law.Uses.{Hosts, Step, arms, ticks, accepted, count, any, answer-if, armed-if, answer, arm-book, nobody, disarm, Wanted, task-of, armeds, pulling, arm-answer, leader, outcomes, Book, stop-tells, book-tells, feed-stop, feed, Watch, watch, spell, fresh-masters, Use, made, does, uses, Held, ticks-of, Clocks, Law, Every-use, Plays}
+use Rattle.exchange.proofs.law.Uses.{Tasks, Hosts, Step, arms, ticks, accepted, count, any, answer-if, armed-if, answer, arm-book, nobody, disarm, Wanted, task-of, armeds, pulling, arm-answer, leader, outcomes, Book, stop-tells, book-tells, feed-stop, feed, Watch, watch, spell, fresh-masters, Use, made, does, uses, Held, ticks-of, Clocks, Law, Every-use, Plays}
 use Rattle.exchange.proofs.law.Cells.{cell-armeds, Holding, marked, never, pulls-nothing, armeds-looks}
 use Rattle.exchange.proofs.law.Stands.{Stands, idle, claims, begun, low, rose, high, fresh-keeps, arm-from, arm-stands}
 use Rattle.exchange.proofs.law.Stops.{disarmed}
@@ -70,7 +70,7 @@ module _ (W : Script) where
   answer-one m unarmed None = refl
   answer-one m unarmed (Some t) = refl
 
-  answers : (ms : List (MasterModel W)) (ws : List (Option (W .Task))) (i : ℕ) → arm-answer W ms ws i ≡ answer (armeds W ms) ws i
+  answers : (ms : List (MasterModel W)) (ws : Tasks W) (i : ℕ) → arm-answer W ms ws i ≡ answer (armeds W ms) ws i
   answers [] ws i = refl
   answers (m ∷ ms) [] i = refl
   answers (m ∷ ms) (w ∷ ws) zero = answer-one m (m .arming) w
@@ -90,7 +90,7 @@ module _ (W : Script) where
 
 -- what the invariant says of one point
 module _ (W : Script) (D : Side) (left : W .Cursor → ℕ) (Alike : W .Cursor → W .Cursor → Type 0) (Fits : W .Task → Type 0) (Rest : D .S → Type 0) where
-  stands-armed : (u : Bus W D) (os : List (Option (W .Task))) (s : D .S) (t : Option (List (Option (W .Task)))) (w : Watch) (n : ℕ) → Stands W D left Alike Fits Rest u os s t w n → armeds W (u .masters) ≡ os
+  stands-armed : (u : Bus W D) (os : Tasks W) (s : D .S) (t : Option (Tasks W)) (w : Watch) (n : ℕ) → Stands W D left Alike Fits Rest u os s t w n → armeds W (u .masters) ≡ os
   stands-armed _ _ _ _ _ _ (idle u os s w cs e a t g q y) = ap (λ x. armeds W (x .masters)) e ∙ armeds-looks W (idling W) (λ m p. refl) cs ∙ sym a
   stands-armed _ _ _ _ _ _ (claims u os s l v sp cs e m g q y) = ap (λ x. armeds W (x .masters)) e ∙ armeds-looks W (claimed W) (λ m p. refl) cs ∙ sym (g .armed)
   stands-armed _ _ _ _ _ _ (begun u os s l v sp cs k n e b c m g q y) = ap (λ x. armeds W (x .masters)) e ∙ armeds-looks W (opened W k) (λ m p. refl) cs ∙ sym (g .armed)
@@ -101,7 +101,7 @@ module _ (W : Script) (D : Side) (left : W .Cursor → ℕ) (Alike : W .Cursor �
   busy-not : (u u′ : Bus W D) {s : D .S} → u ≡ u′ → u′ .wire .busy ≡ true → u .wire .busy ≡ false → u .side ≡ s
   busy-not u u′ e b h = let z : true ≡ false = sym b ∙ sym (ap (λ x. x .wire .busy) e) ∙ h in let y : _≡_ {A = ℕ} 0 1 = cc in absurd (omega arith)
 
-  stands-side : (u : Bus W D) (os : List (Option (W .Task))) (s : D .S) (t : Option (List (Option (W .Task)))) (w : Watch) (n : ℕ) → Stands W D left Alike Fits Rest u os s t w n → u .wire .busy ≡ false → u .side ≡ s
+  stands-side : (u : Bus W D) (os : Tasks W) (s : D .S) (t : Option (Tasks W)) (w : Watch) (n : ℕ) → Stands W D left Alike Fits Rest u os s t w n → u .wire .busy ≡ false → u .side ≡ s
   stands-side _ _ _ _ _ _ (idle u os s w cs e a t g q y) h = ap (λ x. x .side) e
   stands-side _ _ _ _ _ _ (claims u os s l v sp cs e m g q y) h = ap (λ x. x .side) e
   stands-side _ _ _ _ _ _ (begun u os s l v sp cs k n e b c m g q y) h = busy-not u (Opened W D cs (D .begin s) k) e refl h
@@ -110,10 +110,10 @@ module _ (W : Script) (D : Side) (left : W .Cursor → ℕ) (Alike : W .Cursor �
   stands-side _ _ _ _ _ _ (high u os s0 l v sp cs k r s d c f n e j o z m g q y) h = busy-not u (Settled W D d c cs s f) e refl h
 
   outs : (u u′ : Bus W D) (f : Symbol → Bool) (g : MasterModel W → W .Cursor → MasterModel W) (each : (m : MasterModel W) (p : W .Cursor) → f (W .symbol p) ≡ true → (g m p .pulls .scl || g m p .pulls .sda) ≡ false)
-      (l : List (Option (W .Task))) (cs : List (Cell W)) (v : List Bool) (i : ℕ) → u ≡ u′ → u′ .masters ≡ looks W g cs → v ≡ marked W f l cs → getD v i false ≡ true → pulling W (u .masters) i ≡ false
+      (l : Tasks W) (cs : List (Cell W)) (v : List Bool) (i : ℕ) → u ≡ u′ → u′ .masters ≡ looks W g cs → v ≡ marked W f l cs → getD v i false ≡ true → pulling W (u .masters) i ≡ false
   outs u u′ f g each l cs v i e d m h = ap (λ x. pulling W (x .masters) i) e ∙ ap (λ x. pulling W x i) d ∙ pulls-nothing W f g each l cs i (sym (ap (λ x. getD x i false) m) ∙ h)
 
-  stands-out : (u : Bus W D) (os : List (Option (W .Task))) (s : D .S) (t : Option (List (Option (W .Task)))) (w : Watch) (n : ℕ) → Stands W D left Alike Fits Rest u os s t w n →
+  stands-out : (u : Bus W D) (os : Tasks W) (s : D .S) (t : Option (Tasks W)) (w : Watch) (n : ℕ) → Stands W D left Alike Fits Rest u os s t w n →
       isSome t ≡ true → (i : ℕ) → getD (w .marked) i false ≡ true → pulling W (u .masters) i ≡ false
   stands-out _ _ _ _ _ _ (idle u os s w cs e a t g q y) h i k = let z : _≡_ {A = ℕ} 0 1 = cc in absurd (omega arith)
   stands-out _ _ _ _ _ _ (claims u os s l v sp cs e m g q y) h i k = outs u (Claimed W D cs s) never (claimed W) (never-out W (claimed W)) l cs v i e refl (m .0) k
@@ -122,7 +122,7 @@ module _ (W : Script) (D : Side) (left : W .Cursor → ℕ) (Alike : W .Cursor �
   stands-out _ _ _ _ _ _ (rose u os s0 l v sp cs k r s b n e j c m g q y) h i z = outs u (Fresh W D b cs s) (early-lost b) (fresh W b) (λ m p. rise-out W (released W m p) p (W .symbol p) b) l cs v i e refl (m .0) z
   stands-out _ _ _ _ _ _ (high u os s0 l v sp cs k r s d c f n e j o z m g q y) h i x = outs u (Settled W D d c cs s f) never (settled W f) (never-out W (settled W f)) l cs v i e refl (m .0) x
 
-  stands-left : (u : Bus W D) (os : List (Option (W .Task))) (s : D .S) (t : Option (List (Option (W .Task)))) (w : Watch) (n : ℕ) → Stands W D left Alike Fits Rest u os s t w n → n ≤ 159999
+  stands-left : (u : Bus W D) (os : Tasks W) (s : D .S) (t : Option (Tasks W)) (w : Watch) (n : ℕ) → Stands W D left Alike Fits Rest u os s t w n → n ≤ 159999
   stands-left _ _ _ _ _ _ (idle u os s w cs e a t g q y) = omega arith
   stands-left _ _ _ _ _ _ (claims u os s l v sp cs e m g q y) = omega arith
   stands-left _ _ _ _ _ _ (begun u os s l v sp cs f n e b c m g q y) = omega arith
@@ -187,10 +187,10 @@ module _ (W : Script) (D : Side) (left : W .Cursor → ℕ) (H : Hosts W) (Alike
       nobody-armed j t e = let z : None ≡ Some t = sym (made-unarmed W cs j) ∙ e in let y : _≡_ {A = ℕ} 0 1 = cc in absurd (omega arith)
 
 module _ (W : Script) (D : Side) (left : W .Cursor → ℕ) (H : Hosts W) (Alike : W .Cursor → W .Cursor → Type 0) (Fits : W .Task → Type 0) (Rest : D .S → Type 0) (laws : Laws W left Alike) (plays : Plays W D left H Alike Fits Rest) where
-  unheard : (a : H .State) (os : List (Option (W .Task))) → H .hear a (nobody os) ≡ a
+  unheard : (a : H .State) (os : Tasks W) → H .hear a (nobody os) ≡ a
   unheard a os = plays .unheard a (nobody os) (nobody-at (W .Outcome) os)
 
-  hears-stop : (a : H .State) (os : List (Option (W .Task))) (s : D .S) (t : Option (List (Option (W .Task)))) → H .hear a (stop-tells W D left H os s t) ≡ feed-stop W D left H a os s t .hosts
+  hears-stop : (a : H .State) (os : Tasks W) (s : D .S) (t : Option (Tasks W)) → H .hear a (stop-tells W D left H os s t) ≡ feed-stop W D left H a os s t .hosts
   hears-stop a os s None = unheard a os
   hears-stop a os s (Some l) = refl
 
@@ -203,10 +203,10 @@ module _ (W : Script) (D : Side) (left : W .Cursor → ℕ) (H : Hosts W) (Alike
   hears b SteadyLow = unheard (b .hosts) (b .armed)
 
   -- what an armed master's host wants does not change until it is told
-  wanted-told : (a : H .State) (os : List (Option (W .Task))) (ts : List (Option (W .Outcome))) → Wanted (H .wants a) os → Wanted (H .wants (H .hear a ts)) (disarm os ts)
+  wanted-told : (a : H .State) (os : Tasks W) (ts : List (Option (W .Outcome))) → Wanted (H .wants a) os → Wanted (H .wants (H .hear a ts)) (disarm os ts)
   wanted-told a os ts h j t e = let z = disarmed os ts j t e in plays .still-wants a ts j (z .1) ∙ h j t (z .0)
 
-  wanted-stop : (a : H .State) (os : List (Option (W .Task))) (s : D .S) (t : Option (List (Option (W .Task)))) → Wanted (H .wants a) os → Wanted (H .wants (feed-stop W D left H a os s t .hosts)) (feed-stop W D left H a os s t .armed)
+  wanted-stop : (a : H .State) (os : Tasks W) (s : D .S) (t : Option (Tasks W)) → Wanted (H .wants a) os → Wanted (H .wants (feed-stop W D left H a os s t .hosts)) (feed-stop W D left H a os s t .armed)
   wanted-stop a os s None h = h
   wanted-stop a os s (Some l) h = wanted-told a os (outcomes W D left l (leader W D left l (D .begin s)) (D .begin s)) h
 

@@ -16,7 +16,7 @@ use Rattle.exchange.proofs.Sides.{Side}
 use Rattle.exchange.proofs.law.Machine.{taken, Bus}
 use Rattle.exchange.proofs.law.Phases.{holds, early-lost, Cell, looks, cursors, idling, claimed, opened, lowered, released, fresh, settled, some, alive, Timed, advance, bus, Free, Claimed, Opened, Low, Fresh, Settled, carries}
 use Rattle.exchange.proofs.law.Race.{at}
-use Rattle.exchange.proofs.law.Uses.{armed-if, arm-book, begins, Spell, spell, fallen, Watch, watch, arm-bus}
+use Rattle.exchange.proofs.law.Uses.{Tasks, armed-if, arm-book, begins, Spell, spell, fallen, Watch, watch, arm-bus}
 use Rattle.exchange.proofs.law.Cells.{cell-armeds, Holding, Within, marked, never, arm-cells, arm-looks, arm-armeds, arm-timed, arm-holding, arm-within, arm-some, arm-cursors, arm-marked, arm-advance}
 use Rattle.exchange.proofs.law.Runs.{Run, spelled}
 
@@ -25,7 +25,7 @@ Ready {A} Fits l = (i : ℕ) (t : A) → at l i ≡ Some t → Fits t
 
 module _ (W : Script) where
   -- the masters of a turn with the contenders l; os: who is armed
-  pub record Crew (l os : List (Option (W .Task))) (cs : List (Cell W)) : Type 0 where
+  pub record Crew (l os : Tasks W) (cs : List (Cell W)) : Type 0 where
     pub armed : os ≡ cell-armeds W cs
     pub timed : Timed W cs
     pub living : alive W cs ≡ true
@@ -34,34 +34,34 @@ module _ (W : Script) where
 
 module _ (W : Script) (D : Side) (Fits : W .Task → Type 0) (Rest : D .S → Type 0) where
   -- what the book holds in a turn
-  pub record Fit (os l : List (Option (W .Task))) (s : D .S) : Type 0 where
+  pub record Fit (os l : Tasks W) (s : D .S) : Type 0 where
     pub armed : Ready Fits os
     pub turn : Ready Fits l
     pub rest : Rest s
 
 module _ (W : Script) (D : Side) (left : W .Cursor → ℕ) (Alike : W .Cursor → W .Cursor → Type 0) (Fits : W .Task → Type 0) (Rest : D .S → Type 0) where
   -- a bus u beside a book with the armed os, the side s at rest and the open turn; the watch; and how many ticks are left at the most until an outcome is told
-  pub data Stands : Bus W D → List (Option (W .Task)) → D .S → Option (List (Option (W .Task))) → Watch → ℕ → Type 0 where
-    idle : (u : Bus W D) (os : List (Option (W .Task))) (s : D .S) (w : Watch) (cs : List (Cell W)) →
+  pub data Stands : Bus W D → Tasks W → D .S → Option (Tasks W) → Watch → ℕ → Type 0 where
+    idle : (u : Bus W D) (os : Tasks W) (s : D .S) (w : Watch) (cs : List (Cell W)) →
         u ≡ Free W D cs s → os ≡ cell-armeds W cs → Timed W cs → Holding W cs → Rest s → Ready Fits os →
         Stands u os s None w 159999
-    claims : (u : Bus W D) (os : List (Option (W .Task))) (s : D .S) (l : List (Option (W .Task))) (v : List Bool) (sp : Spell) (cs : List (Cell W)) →
+    claims : (u : Bus W D) (os : Tasks W) (s : D .S) (l : Tasks W) (v : List Bool) (sp : Spell) (cs : List (Cell W)) →
         u ≡ Claimed W D cs s → (v ≡ marked W never l cs) × (sp ≡ spell None []) → Crew W l os cs → Run W D left Alike (begins W l) (D .begin s) 0 308 (cursors W cs) (D .begin s) → Fit W D Fits Rest os l s →
         Stands u os s (Some l) (watch 0 false v sp) 158262
-    begun : (u : Bus W D) (os : List (Option (W .Task))) (s : D .S) (l : List (Option (W .Task))) (v : List Bool) (sp : Spell) (cs : List (Cell W)) (e n : ℕ) →
+    begun : (u : Bus W D) (os : Tasks W) (s : D .S) (l : Tasks W) (v : List Bool) (sp : Spell) (cs : List (Cell W)) (e n : ℕ) →
         u ≡ Opened W D cs (D .begin s) e → e ≤ 255 → n + e ≡ 158261 →
         (v ≡ marked W never l cs) × (sp ≡ spell None []) → Crew W l os cs → Run W D left Alike (begins W l) (D .begin s) 0 308 (cursors W cs) (D .begin s) → Fit W D Fits Rest os l s →
         Stands u os s (Some l) (watch 0 false v sp) n
-    low : (u : Bus W D) (os : List (Option (W .Task))) (s0 : D .S) (l : List (Option (W .Task))) (v : List Bool) (sp : Spell) (cs : List (Cell W)) (k r : ℕ) (s : D .S) (d : Bool) (h e n : ℕ) →
+    low : (u : Bus W D) (os : Tasks W) (s0 : D .S) (l : Tasks W) (v : List Bool) (sp : Spell) (cs : List (Cell W)) (k r : ℕ) (s : D .S) (d : Bool) (h e n : ℕ) →
         u ≡ Low W D d cs s h e → h ≤ 255 → e ≤ 255 → n + e ≡ 513 * r →
         (v ≡ marked W never l cs) × (sp ≡ spell None (spelled W D (begins W l) (D .begin s0) k)) → Crew W l os cs → Run W D left Alike (begins W l) (D .begin s0) k r (cursors W cs) s → Fit W D Fits Rest os l s0 →
         Stands u os s0 (Some l) (watch (suc k) false v sp) n
-    rose : (u : Bus W D) (os : List (Option (W .Task))) (s0 : D .S) (l : List (Option (W .Task))) (v : List Bool) (sp : Spell) (cs : List (Cell W)) (k r : ℕ) (s : D .S) (b : Bool) (n : ℕ) →
+    rose : (u : Bus W D) (os : Tasks W) (s0 : D .S) (l : Tasks W) (v : List Bool) (sp : Spell) (cs : List (Cell W)) (k r : ℕ) (s : D .S) (b : Bool) (n : ℕ) →
         u ≡ Fresh W D b cs s → carries W D cs s ≡ b → n + 256 ≡ 513 * r →
         (v ≡ marked W (early-lost b) l cs) × (sp ≡ spell (Some b) (spelled W D (begins W l) (D .begin s0) k)) → Crew W l os cs → Run W D left Alike (begins W l) (D .begin s0) k r (cursors W cs) s → Fit W D Fits Rest os l s0 →
         Stands u os s0 (Some l) (watch (suc k) true v sp) n
     -- c: the bit that counts at the next fall; after a repeated start none does
-    high : (u : Bus W D) (os : List (Option (W .Task))) (s0 : D .S) (l : List (Option (W .Task))) (v : List Bool) (sp : Spell) (cs : List (Cell W)) (k r : ℕ) (s : D .S) (d : Bool) (c : Option Bool) (e n : ℕ) →
+    high : (u : Bus W D) (os : Tasks W) (s0 : D .S) (l : Tasks W) (v : List Bool) (sp : Spell) (cs : List (Cell W)) (k r : ℕ) (s : D .S) (d : Bool) (c : Option Bool) (e n : ℕ) →
         u ≡ Settled W D d c cs s e → not (some W holds cs || D .pulls s) ≡ d → e ≤ 255 → n + 257 + e ≡ 513 * suc r →
         (v ≡ marked W never l cs) × (fallen (sp .latched) (sp .letters) ≡ spell None (spelled W D (begins W l) (D .begin s0) (suc k))) → Crew W l os cs →
         Run W D left Alike (begins W l) (D .begin s0) (suc k) r (cursors W (advance W (valueOr c true) cs)) (taken D c s) → Fit W D Fits Rest os l s0 →
@@ -80,7 +80,7 @@ module _ (W : Script) where
   pub fresh-keeps : (b : Bool) (m : MasterModel W) (p : W .Cursor) → fresh W b m p .arming ≡ m .arming
   fresh-keeps b m p = rise-keeps (released W m p) p (W .symbol p) b
 
-  arm-crew : (l os : List (Option (W .Task))) (cs : List (Cell W)) (ws : List (Option (W .Task))) (i : ℕ) → Crew W l os cs → Crew W l (arm-book os ws i) (arm-cells W cs ws i)
+  arm-crew : (l os : Tasks W) (cs : List (Cell W)) (ws : Tasks W) (i : ℕ) → Crew W l os cs → Crew W l (arm-book os ws i) (arm-cells W cs ws i)
   arm-crew l os cs ws i g = record {
     armed = ap (λ x. arm-book x ws i) (g .armed) ∙ arm-armeds W cs ws i (g .holding);
     timed = arm-timed W cs ws i (g .timed);
@@ -106,18 +106,18 @@ arm-ready Fits os ws i z g j p e = elim (arm-from os ws i j p e) [ inl y ↦ g j
 
 module _ (W : Script) (D : Side) where
   arm-phase : (c d y : Bool) (f : MasterModel W → W .Cursor → MasterModel W) (keeps : (m : MasterModel W) (p : W .Cursor) → f m p .arming ≡ m .arming) (cs : List (Cell W)) (s : D .S) (k : Option Bool) (n : ℕ)
-      (u : Bus W D) (ws : List (Option (W .Task))) (i : ℕ) → Holding W cs → u ≡ bus W D c d y (looks W f cs) s k n → arm-bus W D u ws i ≡ bus W D c d y (looks W f (arm-cells W cs ws i)) s k n
+      (u : Bus W D) (ws : Tasks W) (i : ℕ) → Holding W cs → u ≡ bus W D c d y (looks W f cs) s k n → arm-bus W D u ws i ≡ bus W D c d y (looks W f (arm-cells W cs ws i)) s k n
   arm-phase c d y f keeps cs s k n u ws i h e = ap (λ x. arm-bus W D x ws i) e ∙ ap (λ ms. bus W D c d y ms s k n) (arm-looks W f keeps cs ws i h)
 
-module _ (W : Script) (D : Side) (left : W .Cursor → ℕ) (Alike : W .Cursor → W .Cursor → Type 0) (Fits : W .Task → Type 0) (Rest : D .S → Type 0) (ws : List (Option (W .Task))) (wants : Ready Fits ws) (i : ℕ) where
-  arm-fit : (os l : List (Option (W .Task))) (s : D .S) → Fit W D Fits Rest os l s → Fit W D Fits Rest (arm-book os ws i) l s
+module _ (W : Script) (D : Side) (left : W .Cursor → ℕ) (Alike : W .Cursor → W .Cursor → Type 0) (Fits : W .Task → Type 0) (Rest : D .S → Type 0) (ws : Tasks W) (wants : Ready Fits ws) (i : ℕ) where
+  arm-fit : (os l : Tasks W) (s : D .S) → Fit W D Fits Rest os l s → Fit W D Fits Rest (arm-book os ws i) l s
   arm-fit os l s y = record { armed = arm-ready Fits os ws i wants (y .armed); turn = y .turn; rest = y .rest }
 
   arm-run : (l : List (Option (W .Cursor))) (s0 : D .S) (k r : ℕ) (cs : List (Cell W)) (s : D .S) → Run W D left Alike l s0 k r (cursors W cs) s → Run W D left Alike l s0 k r (cursors W (arm-cells W cs ws i)) s
   arm-run l s0 k r cs s g = subst (λ ps. Run W D left Alike l s0 k r ps s) (sym (arm-cursors W cs ws i)) g
 
   -- an arm in any phase
-  pub arm-stands : (u : Bus W D) (os : List (Option (W .Task))) (s : D .S) (t : Option (List (Option (W .Task)))) (w : Watch) (n : ℕ) → Stands W D left Alike Fits Rest u os s t w n →
+  pub arm-stands : (u : Bus W D) (os : Tasks W) (s : D .S) (t : Option (Tasks W)) (w : Watch) (n : ℕ) → Stands W D left Alike Fits Rest u os s t w n →
       Stands W D left Alike Fits Rest (arm-bus W D u ws i) (arm-book os ws i) s t w n
   arm-stands _ _ _ _ _ _ (idle u os s w cs e a t g q y) =
       idle (arm-bus W D u ws i) (arm-book os ws i) s w (arm-cells W cs ws i)

@@ -23,7 +23,7 @@ use Rattle.exchange.proofs.Sides.{Side, heard}
 use Rattle.exchange.proofs.law.Machine.{any-scl, verdicts, asked, taken, Bus, tick, tick-event, said, tick-verdicts}
 use Rattle.exchange.proofs.law.Phases.{lines, shown, rank, holds, early-lost, late-lost, Cell, out, live, looks, notes, no-verdict, early, late, cursors, opened, settled, some, Every, Timed, least, stay, advance, finished, claim-all, Free, Claimed, Opened, Low, Fresh, Settled, carries, held, Shape}
 use Rattle.exchange.proofs.law.Race.{at, lead, Quiet, Laws}
-use Rattle.exchange.proofs.law.Uses.{Hosts, count, any, nobody, disarm, is-lost, telling, tellings, begins, leader, wins, outcomes, leader-side, book, feed, book-tells, Spell, spell, bit-letter, fallen, Watch, watch, falses, marks-too, turned, noted, sees, Loses, Stopped, Spelled, Plays}
+use Rattle.exchange.proofs.law.Uses.{Tasks, Hosts, count, any, nobody, disarm, is-lost, telling, tellings, begins, leader, wins, outcomes, leader-side, book, feed, book-tells, Spell, spell, bit-letter, fallen, Watch, watch, falses, marks-too, turned, noted, sees, Loses, Stopped, Spelled, Plays}
 use Rattle.exchange.proofs.law.Lists.{rank-top, every, least-below, via-verdicts}
 use Rattle.exchange.proofs.law.Lows.{low-stays, low-rises, low-ends}
 use Rattle.exchange.proofs.law.Highs.{opened-stays, opened-falls, opened-ends, settled-stays, settled-falls, settled-ends}
@@ -124,7 +124,7 @@ module _ (W : Script) where
   late-mute : (n : ℕ) → (n ≡ 1 → ⊥) → (x : Symbol) (p : W .Cursor) → telling W (late W n x p) ≡ None
   late-mute n h x p = grind (arith, tells)
 
-  crew-stay : (n : ℕ) (l os : List (Option (W .Task))) (cs : List (Cell W)) → least W cs ≡ n → n ≤ 4 → Crew W l os cs → Crew W l os (stay W n cs)
+  crew-stay : (n : ℕ) (l os : Tasks W) (cs : List (Cell W)) → least W cs ≡ n → n ≤ 4 → Crew W l os cs → Crew W l os (stay W n cs)
   crew-stay n l os cs e h g = record {
     armed = g .armed ∙ sym (armeds-stay W n cs);
     timed = timed-stay W n cs (g .timed);
@@ -133,7 +133,7 @@ module _ (W : Script) where
     within = within-stay W n l cs (g .within);
   }
 
-  crew-advance : (b : Bool) (l os : List (Option (W .Task))) (cs : List (Cell W)) → Crew W l os cs → Crew W l os (advance W b cs)
+  crew-advance : (b : Bool) (l os : Tasks W) (cs : List (Cell W)) → Crew W l os cs → Crew W l os (advance W b cs)
   crew-advance b l os cs g = record {
     armed = g .armed ∙ sym (armeds-advance W b cs);
     timed = timed-advance W b cs (g .timed);
@@ -155,24 +155,24 @@ module _ (D : Side) where
 
 module _ (W : Script) (D : Side) (left : W .Cursor → ℕ) (H : Hosts W) (Alike : W .Cursor → W .Cursor → Type 0) (Fits : W .Task → Type 0) (Rest : D .S → Type 0) where
   -- what a tick to the bus u with the event e and the verdicts ks does; due: how many ticks are then left at the most until an outcome is told
-  pub record Fine (hs : H .State) (os : List (Option (W .Task))) (s : D .S) (t : Option (List (Option (W .Task)))) (w : Watch) (n : ℕ) (u : Bus W D) (e : Event) (ks : List (VerdictModel W)) : Type 0 where
+  pub record Fine (hs : H .State) (os : Tasks W) (s : D .S) (t : Option (Tasks W)) (w : Watch) (n : ℕ) (u : Bus W D) (e : Event) (ks : List (VerdictModel W)) : Type 0 where
     pub due : ℕ
     pub stands : Stands W D left Alike Fits Rest u (feed W D left H (book W D H hs os s t) e .armed) (feed W D left H (book W D H hs os s t) e .side) (feed W D left H (book W D H hs os s t) e .turn) (sees W w os t e ks) due
     pub tells : tellings W ks ≡ book-tells W D left H (book W D H hs os s t) e
     pub counts : count (feed W D left H (book W D H hs os s t) e .armed) + count (book-tells W D left H (book W D H hs os s t) e) ≡ count os
     pub loses : (i : ℕ) → getD ks i quiet ≡ lost → Loses W D left t s (w .marked) (turned W w os t e) i
-    pub stops : e ≡ Stop → (l : List (Option (W .Task))) → t ≡ Some l → (i : ℕ) (p : W .Task) → at l i ≡ Some p → Stopped W D left l s (w .marked) (tellings W ks) i p
-    pub spelled : e ≡ Stop → (l : List (Option (W .Task))) → t ≡ Some l → Spelled W D left l s (turned W w os t e .spelling .letters)
+    pub stops : e ≡ Stop → (l : Tasks W) → t ≡ Some l → (i : ℕ) (p : W .Task) → at l i ≡ Some p → Stopped W D left l s (w .marked) (tellings W ks) i p
+    pub spelled : e ≡ Stop → (l : Tasks W) → t ≡ Some l → Spelled W D left l s (turned W w os t e .spelling .letters)
     pub falls : (1 ≤ count (book-tells W D left H (book W D H hs os s t) e)) ⊎ (((due < n) × (feed W D left H (book W D H hs os s t) e .armed ≡ os)) ⊎ (any os ≡ false))
 
   -- by what the tick is known to be
-  by-tick : (hs : H .State) (u : Bus W D) (os : List (Option (W .Task))) (s : D .S) (t : Option (List (Option (W .Task)))) (w : Watch) (n h : ℕ) (u′ : Bus W D) (ks : List (VerdictModel W)) →
+  by-tick : (hs : H .State) (u : Bus W D) (os : Tasks W) (s : D .S) (t : Option (Tasks W)) (w : Watch) (n h : ℕ) (u′ : Bus W D) (ks : List (VerdictModel W)) →
       tick W D u h ≡ u′ → tick-verdicts W D u ≡ ks → Fine hs os s t w n u′ (event (u .wire .last) (u′ .wire .last)) ks → Fine hs os s t w n (tick W D u h) (tick-event W D u) (tick-verdicts W D u)
   by-tick hs u os s t w n h u′ ks a b f =
       subst (λ x. Fine hs os s t w n (tick W D u h) (tick-event W D u) x) (sym b) (subst (λ x. Fine hs os s t w n x (event (u .wire .last) (x .wire .last)) ks) (sym a) f)
 
   -- a tick that tells nobody
-  silent : (hs : H .State) (os : List (Option (W .Task))) (s : D .S) (t t′ : Option (List (Option (W .Task)))) (w w′ : Watch) (n n′ : ℕ) (u : Bus W D) (e : Event) (ks : List (VerdictModel W)) →
+  silent : (hs : H .State) (os : Tasks W) (s : D .S) (t t′ : Option (Tasks W)) (w w′ : Watch) (n n′ : ℕ) (u : Bus W D) (e : Event) (ks : List (VerdictModel W)) →
       feed W D left H (book W D H hs os s t) e ≡ book W D H hs os s t′ → book-tells W D left H (book W D H hs os s t) e ≡ nobody os → (e ≡ Stop → ⊥) → sees W w os t e ks ≡ w′ →
       tellings W ks ≡ nobody os → ((i : ℕ) → getD ks i quiet ≡ lost → Loses W D left t s (w .marked) (turned W w os t e) i) →
       (n′ < n) ⊎ (any os ≡ false) → Stands W D left Alike Fits Rest u os s t′ w′ n′ → Fine hs os s t w n u e ks
@@ -187,14 +187,14 @@ module _ (W : Script) (D : Side) (left : W .Cursor → ℕ) (H : Hosts W) (Alike
     falls = inr (elim fs [ inl z ↦ inl (z, ap (λ b. b .armed) fe) | inr z ↦ inr z ]);
   }
 
-  no-loses : (t : Option (List (Option (W .Task)))) (s : D .S) (v : List Bool) (w : Watch) (cs : List (Cell W)) (i : ℕ) → getD (notes W (no-verdict W) cs) i quiet ≡ lost → Loses W D left t s v w i
+  no-loses : (t : Option (Tasks W)) (s : D .S) (v : List Bool) (w : Watch) (cs : List (Cell W)) (i : ℕ) → getD (notes W (no-verdict W) cs) i quiet ≡ lost → Loses W D left t s v w i
   no-loses t s v w cs i h = let a = note-at W (no-verdict W) cs i h in let b : _≡_ {A = VerdictModel W} quiet lost = a .2 in let z : _≡_ {A = ℕ} 0 1 = cc in absurd (omega arith)
 
-  abbrev pub Real : H .State → Bus W D → List (Option (W .Task)) → D .S → Option (List (Option (W .Task))) → Watch → ℕ → ℕ → Type 0
+  abbrev pub Real : H .State → Bus W D → Tasks W → D .S → Option (Tasks W) → Watch → ℕ → ℕ → Type 0
   Real hs u os s t w n h = Fine hs os s t w n (tick W D u h) (tick-event W D u) (tick-verdicts W D u)
 
   -- a tick with no verdict
-  plain : (hs : H .State) (u : Bus W D) (cs : List (Cell W)) (os : List (Option (W .Task))) (s : D .S) (t t′ : Option (List (Option (W .Task)))) (w w′ : Watch) (n n′ h : ℕ) (u′ : Bus W D) (e : Event) →
+  plain : (hs : H .State) (u : Bus W D) (cs : List (Cell W)) (os : Tasks W) (s : D .S) (t t′ : Option (Tasks W)) (w w′ : Watch) (n n′ h : ℕ) (u′ : Bus W D) (e : Event) →
       os ≡ cell-armeds W cs → tick W D u h ≡ u′ → event (u .wire .last) (u′ .wire .last) ≡ e → said W D u (u′ .wire .last) ≡ notes W (no-verdict W) cs →
       feed W D left H (book W D H hs os s t) e ≡ book W D H hs os s t′ → book-tells W D left H (book W D H hs os s t) e ≡ nobody os → (e ≡ Stop → ⊥) → noted W (turned W w os t e) (notes W (no-verdict W) cs) ≡ w′ →
       (n′ < n) ⊎ (any os ≡ false) → Stands W D left Alike Fits Rest u′ os s t′ w′ n′ → Real hs u os s t w n h
@@ -206,7 +206,7 @@ module _ (W : Script) (D : Side) (left : W .Cursor → ℕ) (H : Hosts W) (Alike
       (no-loses t s (w .marked) (turned W w os t e) cs) fs st))
 
 module _ (W : Script) (D : Side) (left : W .Cursor → ℕ) (H : Hosts W) (Alike : W .Cursor → W .Cursor → Type 0) (Fits : W .Task → Type 0) (Rest : D .S → Type 0) (laws : Laws W left Alike) (plays : Plays W D left H Alike Fits Rest) where
-  first-run : (os : List (Option (W .Task))) (s : D .S) → Rest s → Ready Fits os → Run W D left Alike (begins W os) (D .begin s) 0 308 (begins W os) (D .begin s)
+  first-run : (os : Tasks W) (s : D .S) → Rest s → Ready Fits os → Run W D left Alike (begins W os) (D .begin s) 0 308 (begins W os) (D .begin s)
   first-run os s q y = record {
     runs = refl;
     fair = record { small = small; alike = alike };
@@ -227,7 +227,7 @@ module _ (W : Script) (D : Side) (left : W .Cursor → ℕ) (H : Hosts W) (Alike
       silent-side : (i : ℕ) (p : W .Cursor) → at (begins W os) i ≡ Some p → Quiet W D p (D .begin s)
       silent-side i p e = let t = task-at W os i p e in subst (λ x. Quiet W D x (D .begin s)) (t .2) (plays .quiet (t .0) s (y i (t .0) (t .1)) q)
 
-  tick-idle : (hs : H .State) (os : List (Option (W .Task))) (s : D .S) (w : Watch) (cs : List (Cell W)) (h : ℕ) → os ≡ cell-armeds W cs → Timed W cs → Holding W cs → Rest s → Ready Fits os → Real W D left H Alike Fits Rest hs (Free W D cs s) os s None w 159999 h
+  tick-idle : (hs : H .State) (os : Tasks W) (s : D .S) (w : Watch) (cs : List (Cell W)) (h : ℕ) → os ≡ cell-armeds W cs → Timed W cs → Holding W cs → Rest s → Ready Fits os → Real W D left H Alike Fits Rest hs (Free W D cs s) os s None w 159999 h
   tick-idle hs os s w cs h a t g q y = go (any os) refl
     where
       goes : tick W D (Free W D cs s) h ≡ Claimed W D (claim-all W cs) s
@@ -251,14 +251,14 @@ module _ (W : Script) (D : Side) (left : W .Cursor → ℕ) (H : Hosts W) (Alike
           (inr v)
           (idle (Free W D (claim-all W cs) s) os s (noted W w (notes W (no-verdict W) cs)) (claim-all W cs) refl (a ∙ sym (armeds-claim W cs)) (timed-claim W cs t) (holding-claim W cs) q y)
 
-  tick-claims : (hs : H .State) (os : List (Option (W .Task))) (s : D .S) (l : List (Option (W .Task))) (v : List Bool) (sp : Spell) (cs : List (Cell W)) (h : ℕ) → (v ≡ marked W never l cs) × (sp ≡ spell None []) → Crew W l os cs →
+  tick-claims : (hs : H .State) (os : Tasks W) (s : D .S) (l : Tasks W) (v : List Bool) (sp : Spell) (cs : List (Cell W)) (h : ℕ) → (v ≡ marked W never l cs) × (sp ≡ spell None []) → Crew W l os cs →
       Run W D left Alike (begins W l) (D .begin s) 0 308 (cursors W cs) (D .begin s) → Fit W D Fits Rest os l s → Real W D left H Alike Fits Rest hs (Claimed W D cs s) os s (Some l) (watch 0 false v sp) 158262 h
   tick-claims hs os s l v sp cs h m g r y =
       plain W D left H Alike Fits Rest hs (Claimed W D cs s) cs os s (Some l) (Some l) (watch 0 false v sp) (watch 0 false v sp) 158262 158261 h (Opened W D cs (D .begin s) 0) Start (g .armed)
       (claimed-starts W D cs s h (g .timed) (g .living)) refl (claimed-quiet W cs) refl refl start-no (ap (λ x. watch 0 false x sp) (marks-none W v cs)) (inl (omega arith))
       (begun (Opened W D cs (D .begin s) 0) os s l v sp cs 0 158261 refl (omega arith) (omega arith) m g r y)
 
-  tick-begun : (hs : H .State) (os : List (Option (W .Task))) (s : D .S) (l : List (Option (W .Task))) (v : List Bool) (sp : Spell) (cs : List (Cell W)) (e n h : ℕ) → e ≤ 255 → n + e ≡ 158261 → (v ≡ marked W never l cs) × (sp ≡ spell None []) → Crew W l os cs →
+  tick-begun : (hs : H .State) (os : Tasks W) (s : D .S) (l : Tasks W) (v : List Bool) (sp : Spell) (cs : List (Cell W)) (e n h : ℕ) → e ≤ 255 → n + e ≡ 158261 → (v ≡ marked W never l cs) × (sp ≡ spell None []) → Crew W l os cs →
       Run W D left Alike (begins W l) (D .begin s) 0 308 (cursors W cs) (D .begin s) → Fit W D Fits Rest os l s → Real W D left H Alike Fits Rest hs (Opened W D cs (D .begin s) e) os s (Some l) (watch 0 false v sp) n h
   tick-begun hs os s l v sp cs e n h b c m g r y = go (any-scl W (looks W (opened W e) cs)) refl
     where
@@ -274,7 +274,7 @@ module _ (W : Script) (D : Side) (left : W .Cursor → ℕ) (H : Hosts W) (Alike
           (low (Low W D false cs (D .begin s) 0 0) os s l v (fallen (sp .latched) (sp .letters)) cs 0 308 (D .begin s) false 0 0 158004 refl (omega arith) (omega arith) (omega arith) (m .0, ap (λ x. fallen (x .latched) (x .letters)) (m .1)) g r y)
 
   -- a mark in the slot k
-  loses-here : (sp : Spell) (s0 : D .S) (l os : List (Option (W .Task))) (v : List Bool) (f lo : Symbol → Bool) (j : Symbol → W .Cursor → VerdictModel W) (each : (x : Symbol) (p : W .Cursor) → is-lost W (j x p) ≡ lo x) (cs : List (Cell W)) (k r : ℕ) (s : D .S) →
+  loses-here : (sp : Spell) (s0 : D .S) (l os : Tasks W) (v : List Bool) (f lo : Symbol → Bool) (j : Symbol → W .Cursor → VerdictModel W) (each : (x : Symbol) (p : W .Cursor) → is-lost W (j x p) ≡ lo x) (cs : List (Cell W)) (k r : ℕ) (s : D .S) →
       v ≡ marked W f l cs → Crew W l os cs → Run W D left Alike (begins W l) (D .begin s0) k r (cursors W cs) s →
       ((x : Symbol) → lo x ≡ true → f x ≡ false) → ((x : Symbol) → lo x ≡ true → x ≡ lead W (cursors W cs) → ⊥) →
       (i : ℕ) → getD (notes W j cs) i quiet ≡ lost → Loses W D left (Some l) s0 v (watch (suc k) true v sp) i
@@ -297,7 +297,7 @@ module _ (W : Script) (D : Side) (left : W .Cursor → ℕ) (H : Hosts W) (Alike
         first = x .2;
       }
 
-  tick-low : (hs : H .State) (os : List (Option (W .Task))) (s0 : D .S) (l : List (Option (W .Task))) (v : List Bool) (sp : Spell) (cs : List (Cell W)) (k r : ℕ) (s : D .S) (d : Bool) (f e n h : ℕ) → f ≤ 255 → e ≤ 255 → n + e ≡ 513 * r →
+  tick-low : (hs : H .State) (os : Tasks W) (s0 : D .S) (l : Tasks W) (v : List Bool) (sp : Spell) (cs : List (Cell W)) (k r : ℕ) (s : D .S) (d : Bool) (f e n h : ℕ) → f ≤ 255 → e ≤ 255 → n + e ≡ 513 * r →
       (v ≡ marked W never l cs) × (sp ≡ spell None (spelled W D (begins W l) (D .begin s0) k)) → Crew W l os cs → Run W D left Alike (begins W l) (D .begin s0) k r (cursors W cs) s → Fit W D Fits Rest os l s0 → Real W D left H Alike Fits Rest hs (Low W D d cs s f e) os s0 (Some l) (watch (suc k) false v sp) n h
   tick-low hs os s0 l v sp cs k r s d f e n h b b′ c m g run y = go (held W D cs f e) refl
     where
@@ -326,7 +326,7 @@ module _ (W : Script) (D : Side) (left : W .Cursor → ℕ) (H : Hosts W) (Alike
           (inl (omega arith))
           (rose (Fresh W D o cs s) os s0 l (marked W (early-lost o) l cs) (spell (Some o) (sp .letters)) cs k r s o (513 * r - 256) refl refl (omega arith) (refl, ap (λ x. spell (Some o) (x .letters)) (m .1)) g run y))
 
-  tick-high : (hs : H .State) (os : List (Option (W .Task))) (s0 : D .S) (l : List (Option (W .Task))) (v : List Bool) (sp : Spell) (cs : List (Cell W)) (k r : ℕ) (s : D .S) (d : Bool) (c : Option Bool) (e n h : ℕ) → h ≤ 255 →
+  tick-high : (hs : H .State) (os : Tasks W) (s0 : D .S) (l : Tasks W) (v : List Bool) (sp : Spell) (cs : List (Cell W)) (k r : ℕ) (s : D .S) (d : Bool) (c : Option Bool) (e n h : ℕ) → h ≤ 255 →
       not (some W holds cs || D .pulls s) ≡ d → e ≤ 255 → n + 257 + e ≡ 513 * suc r → (v ≡ marked W never l cs) × (fallen (sp .latched) (sp .letters) ≡ spell None (spelled W D (begins W l) (D .begin s0) (suc k))) → Crew W l os cs →
       Run W D left Alike (begins W l) (D .begin s0) (suc k) r (cursors W (advance W (valueOr c true) cs)) (taken D c s) → Fit W D Fits Rest os l s0 →
       Real W D left H Alike Fits Rest hs (Settled W D d c cs s e) os s0 (Some l) (watch (suc k) true v sp) n h
@@ -349,7 +349,7 @@ module _ (W : Script) (D : Side) (left : W .Cursor → ℕ) (H : Hosts W) (Alike
           (low (Low W D d (advance W b cs) (taken D c s) (asked c h) 0) os s0 l v (fallen (sp .latched) (sp .letters)) (advance W b cs) (suc k) r (taken D c s) d (asked c h) 0 (513 * r) refl (asked-to c h hh) (omega arith) (omega arith) (m .0 ∙ sym (marked-advance W b l cs), m .1) (crew-advance W b l os cs g) run y)
 
   -- the tick after the rise: a bit
-  fresh-bit : (hs : H .State) (os : List (Option (W .Task))) (s0 : D .S) (l : List (Option (W .Task))) (v : List Bool) (sp : Spell) (cs : List (Cell W)) (k r : ℕ) (s : D .S) (b : Bool) (n h j : ℕ) →
+  fresh-bit : (hs : H .State) (os : Tasks W) (s0 : D .S) (l : Tasks W) (v : List Bool) (sp : Spell) (cs : List (Cell W)) (k r : ℕ) (s : D .S) (b : Bool) (n h j : ℕ) →
       carries W D cs s ≡ b → n + 256 ≡ 513 * r → (v ≡ marked W (early-lost b) l cs) × (sp ≡ spell (Some b) (spelled W D (begins W l) (D .begin s0) k)) → Crew W l os cs → Run W D left Alike (begins W l) (D .begin s0) k r (cursors W cs) s → Fit W D Fits Rest os l s0 →
       least W cs ≡ j → j ≤ 4 → (j ≡ 1 → ⊥) → (j ≡ 2 → ⊥) → tick W D (Fresh W D b cs s) h ≡ Settled W D b (Some b) (stay W j cs) s 1 → tick-verdicts W D (Fresh W D b cs s) ≡ notes W (late W j) cs →
       not (some W holds (stay W j cs) || D .pulls s) ≡ b → Every W (λ x. (early-lost b x || late-lost j x) ≡ not (eqb (rank x) j)) cs →
@@ -377,7 +377,7 @@ module _ (W : Script) (D : Side) (left : W .Cursor → ℕ) (H : Hosts W) (Alike
           (letter-bit D (lead W (cursors W cs)) s (λ z. j1 (sym at-lead ∙ z)) (λ z. j2 (sym at-lead ∙ z)) ∙ ap bit-letter (run-carries W D left Alike laws (begins W l) (D .begin s0) k (suc r) cs s run ∙ c)))
 
   -- a repeated Start
-  fresh-again : (hs : H .State) (os : List (Option (W .Task))) (s0 : D .S) (l : List (Option (W .Task))) (v : List Bool) (sp : Spell) (cs : List (Cell W)) (k r : ℕ) (s : D .S) (n h : ℕ) →
+  fresh-again : (hs : H .State) (os : Tasks W) (s0 : D .S) (l : Tasks W) (v : List Bool) (sp : Spell) (cs : List (Cell W)) (k r : ℕ) (s : D .S) (n h : ℕ) →
       carries W D cs s ≡ true → n + 256 ≡ 513 * r → (v ≡ marked W (early-lost true) l cs) × (sp ≡ spell (Some true) (spelled W D (begins W l) (D .begin s0) k)) → Crew W l os cs → Run W D left Alike (begins W l) (D .begin s0) k r (cursors W cs) s → Fit W D Fits Rest os l s0 →
       least W cs ≡ 2 → tick W D (Fresh W D true cs s) h ≡ Settled W D false None (stay W 2 cs) (D .begin s) 0 → tick-verdicts W D (Fresh W D true cs s) ≡ notes W (late W 2) cs →
       Every W (λ x. (early-lost true x || late-lost 2 x) ≡ not (eqb (rank x) 2)) cs →
@@ -399,7 +399,7 @@ module _ (W : Script) (D : Side) (left : W .Cursor → ℕ) (H : Hosts W) (Alike
       (subst (λ x. Run W D left Alike (begins W l) (D .begin s0) (suc k) r (cursors W (advance W x (stay W 2 cs))) (D .begin s)) c (run-again W D left Alike laws (begins W l) (D .begin s0) k r cs s run (g .living) e)) y))
 
   -- the Stop
-  fresh-stop : (hs : H .State) (os : List (Option (W .Task))) (s0 : D .S) (l : List (Option (W .Task))) (v : List Bool) (sp : Spell) (cs : List (Cell W)) (k r : ℕ) (s : D .S) (n h : ℕ) →
+  fresh-stop : (hs : H .State) (os : Tasks W) (s0 : D .S) (l : Tasks W) (v : List Bool) (sp : Spell) (cs : List (Cell W)) (k r : ℕ) (s : D .S) (n h : ℕ) →
       (v ≡ marked W (early-lost false) l cs) × (sp ≡ spell (Some false) (spelled W D (begins W l) (D .begin s0) k)) → Crew W l os cs → Run W D left Alike (begins W l) (D .begin s0) k r (cursors W cs) s → Fit W D Fits Rest os l s0 →
       least W cs ≡ 1 → tick W D (Fresh W D false cs s) h ≡ Free W D (finished W cs) (D .finish s) → tick-verdicts W D (Fresh W D false cs s) ≡ notes W (late W 1) cs →
       Every W (λ x. (1 ≤ rank x) × (rank x ≤ 3)) cs →
@@ -461,7 +461,7 @@ module _ (W : Script) (D : Side) (left : W .Cursor → ℕ) (H : Hosts W) (Alike
           let b = contender W l cs (g .within) (a .0) (a .1 .0) (a .1 .1) in
           stop-side W D left Alike laws l (D .begin s0) k r (cursors W cs) s run stops-here (a .0) (b .0) (b .1)
 
-  tick-rises : (hs : H .State) (os : List (Option (W .Task))) (s0 : D .S) (l : List (Option (W .Task))) (v : List Bool) (sp : Spell) (cs : List (Cell W)) (k r : ℕ) (s : D .S) (b : Bool) (n h j : ℕ) → least W cs ≡ j → j ≤ 4 →
+  tick-rises : (hs : H .State) (os : Tasks W) (s0 : D .S) (l : Tasks W) (v : List Bool) (sp : Spell) (cs : List (Cell W)) (k r : ℕ) (s : D .S) (b : Bool) (n h j : ℕ) → least W cs ≡ j → j ≤ 4 →
       carries W D cs s ≡ b → n + 256 ≡ 513 * r → (v ≡ marked W (early-lost b) l cs) × (sp ≡ spell (Some b) (spelled W D (begins W l) (D .begin s0) k)) → Crew W l os cs → Run W D left Alike (begins W l) (D .begin s0) k r (cursors W cs) s → Fit W D Fits Rest os l s0 →
       Shape W D cs s → Real W D left H Alike Fits Rest hs (Fresh W D b cs s) os s0 (Some l) (watch (suc k) true v sp) n h
   tick-rises hs os s0 l v sp cs k r s b n h zero e j4 c z m g run y q =
@@ -497,7 +497,7 @@ module _ (W : Script) (D : Side) (left : W .Cursor → ℕ) (H : Hosts W) (Alike
   tick-rises hs os s0 l v sp cs k r s b n h (suc (suc (suc (suc (suc j))))) e j4 c z m g run y q = absurd (omega arith)
 
   -- a tick in any phase
-  pub tick-stands : (hs : H .State) (u : Bus W D) (os : List (Option (W .Task))) (s : D .S) (t : Option (List (Option (W .Task)))) (w : Watch) (n h : ℕ) → h ≤ 255 → Stands W D left Alike Fits Rest u os s t w n → Real W D left H Alike Fits Rest hs u os s t w n h
+  pub tick-stands : (hs : H .State) (u : Bus W D) (os : Tasks W) (s : D .S) (t : Option (Tasks W)) (w : Watch) (n h : ℕ) → h ≤ 255 → Stands W D left Alike Fits Rest u os s t w n → Real W D left H Alike Fits Rest hs u os s t w n h
   tick-stands hs _ _ _ _ _ _ h hh (idle u os s w cs e a t g q y) = subst (λ x. Real W D left H Alike Fits Rest hs x os s None w 159999 h) (sym e) (tick-idle hs os s w cs h a t g q y)
   tick-stands hs _ _ _ _ _ _ h hh (claims u os s l v sp cs e m g q y) = subst (λ x. Real W D left H Alike Fits Rest hs x os s (Some l) (watch 0 false v sp) 158262 h) (sym e) (tick-claims hs os s l v sp cs h m g q y)
   tick-stands hs _ _ _ _ _ _ h hh (begun u os s l v sp cs k n e b c m g q y) = subst (λ x. Real W D left H Alike Fits Rest hs x os s (Some l) (watch 0 false v sp) n h) (sym e) (tick-begun hs os s l v sp cs k n h b c m g q y)

@@ -18,7 +18,7 @@ use Rattle.exchange.specs.Scripts.{Script}
 use Rattle.exchange.proofs.Sides.{Side, heard}
 use Rattle.exchange.proofs.law.Phases.{rank, early-lost, Cell, out, live, notes, late, cursors, Every, least, done-if, finished}
 use Rattle.exchange.proofs.law.Race.{at, lead, keep, Laws}
-use Rattle.exchange.proofs.law.Uses.{count, disarm-one, disarm, task-of, telling, tellings, begins, task-outcome, leader, wins, outcomes}
+use Rattle.exchange.proofs.law.Uses.{Tasks, count, disarm-one, disarm, task-of, telling, tellings, begins, task-outcome, leader, wins, outcomes}
 use Rattle.exchange.proofs.law.Order.{rank-inj}
 use Rattle.exchange.proofs.law.Cells.{cell-armeds, Holding, Within, marked}
 use Rattle.exchange.proofs.law.Runs.{Run}
@@ -79,7 +79,7 @@ module _ (W : Script) where
   tells-end (out m ∷ cs) = ap (λ l. None ∷ l) (tells-end cs)
   tells-end (live m p ∷ cs) = ap₂ _∷_ (tell-end p (W .symbol p)) (tells-end cs)
 
-  done-armed : (v : Bool) (m : MasterModel W) (o : W .Outcome) (cs : List (Cell W)) (l : List (Option (W .Task))) → cell-armeds W cs ≡ l → cell-armeds W (done-if W v m ∷ cs) ≡ disarm-one (task-of W (m .arming)) (cond v (Some o) None) ∷ l
+  done-armed : (v : Bool) (m : MasterModel W) (o : W .Outcome) (cs : List (Cell W)) (l : Tasks W) → cell-armeds W cs ≡ l → cell-armeds W (done-if W v m ∷ cs) ≡ disarm-one (task-of W (m .arming)) (cond v (Some o) None) ∷ l
   done-armed true m o cs l e = ap (λ z. None ∷ z) e
   done-armed false m o cs l e = ap (λ z. task-of W (m .arming) ∷ z) e
 
@@ -112,7 +112,7 @@ module _ (W : Script) where
   told-unmarked (Some a) p RepeatedStart h q = refl
   told-unmarked (Some a) p Stop h q = refl
 
-  pub tells-unmarked : (l : List (Option (W .Task))) (cs : List (Cell W)) → Within W l cs → Every W (λ x. (1 ≤ rank x) × (rank x ≤ 3)) cs → (i : ℕ) (q : W .Task) → at l i ≡ Some q →
+  pub tells-unmarked : (l : Tasks W) (cs : List (Cell W)) → Within W l cs → Every W (λ x. (1 ≤ rank x) × (rank x ≤ 3)) cs → (i : ℕ) (q : W .Task) → at l i ≡ Some q →
       isSome (at (ending (cursors W cs)) i) ≡ not (getD (marked W (early-lost false) l cs) i false)
   tells-unmarked [] cs h e i q a = let z : _≡_ {A = ℕ} 0 1 = cc in absurd (omega arith)
   tells-unmarked (o ∷ l) [] h e i q a = absurd h
@@ -123,7 +123,7 @@ module _ (W : Script) where
 
 module _ (W : Script) (D : Side) (left : W .Cursor → ℕ) where
   -- one by one
-  outcomes-are : (q : Option (W .Task)) (s : D .S) (l : List (Option (W .Task))) (cs : List (Cell W)) → Within W l cs →
+  outcomes-are : (q : Option (W .Task)) (s : D .S) (l : Tasks W) (cs : List (Cell W)) → Within W l cs →
       ((i : ℕ) (p : W .Task) → at l i ≡ Some p → names W (at (cursors W cs) i) ≡ cond (wins W D left p q s) (Some (task-outcome W D left p s)) None) →
       ending W (cursors W cs) ≡ outcomes W D left l q s
   outcomes-are q s [] [] h each = refl
@@ -134,7 +134,7 @@ module _ (W : Script) (D : Side) (left : W .Cursor → ℕ) where
   outcomes-are q s (Some p ∷ l) (out m ∷ cs) h each = ap₂ _∷_ (each 0 p refl) (outcomes-are q s l cs h (λ i p e. each (suc i) p e))
   outcomes-are q s (Some p ∷ l) (live m r ∷ cs) h each = ap₂ _∷_ (each 0 p refl) (outcomes-are q s l cs (h .1) (λ i p e. each (suc i) p e))
 
-  pub outcome-at : (q : Option (W .Task)) (s : D .S) (l : List (Option (W .Task))) (i : ℕ) (p : W .Task) → at l i ≡ Some p → isSome (at (outcomes W D left l q s) i) ≡ wins W D left p q s
+  pub outcome-at : (q : Option (W .Task)) (s : D .S) (l : Tasks W) (i : ℕ) (p : W .Task) → at l i ≡ Some p → isSome (at (outcomes W D left l q s) i) ≡ wins W D left p q s
   outcome-at q s [] i p e = let z : _≡_ {A = ℕ} 0 1 = cc in absurd (omega arith)
   outcome-at q s (None ∷ l) zero p e = let z : _≡_ {A = ℕ} 0 1 = cc in absurd (omega arith)
   outcome-at q s (Some r ∷ l) zero p e = let z : r ≡ p = cc in told-is (wins W D left r q s) (task-outcome W D left r s) ∙ ap (λ x. wins W D left x q s) z
@@ -142,7 +142,7 @@ module _ (W : Script) (D : Side) (left : W .Cursor → ℕ) where
   outcome-at q s (Some r ∷ l) (suc i) p e = outcome-at q s l i p e
 
 module _ (W : Script) (D : Side) (left : W .Cursor → ℕ) (Alike : W .Cursor → W .Cursor → Type 0) (laws : Laws W left Alike) where
-  pub told-at-stop : (l : List (Option (W .Task))) (s0 : D .S) (k r : ℕ) (cs : List (Cell W)) (s : D .S) → Run W D left Alike (begins W l) s0 k r (cursors W cs) s → rank (lead W (cursors W cs)) ≡ 1 → Within W l cs →
+  pub told-at-stop : (l : Tasks W) (s0 : D .S) (k r : ℕ) (cs : List (Cell W)) (s : D .S) → Run W D left Alike (begins W l) s0 k r (cursors W cs) s → rank (lead W (cursors W cs)) ≡ 1 → Within W l cs →
       ending W (cursors W cs) ≡ outcomes W D left l (leader W D left l s0) s0
   told-at-stop l s0 k r cs s run stops h = outcomes-are W D left (leader W D left l s0) s0 l cs h (λ i q a. each i q a (at (cursors W cs) i) refl)
     where
