@@ -219,7 +219,7 @@ module _ (W : Script) (D : Side) (left : W .Cursor → ℕ) (H : Hosts W) (Alike
   wanted-fed b SteadyLow h = h
 
   fine : (x : Use W D H) (n h : ℕ) → h ≤ 255 → Kept W D left H Alike Fits Rest x n →
-      Fine W D left H Alike Fits Rest (x .book .hosts) (x .book .armed) (x .book .side) (x .book .turn) (x .watch) n (tick W D (x .bus) h) (tick-event W D (x .bus)) (tick-verdicts W D (x .bus))
+      Fine W D left H Alike Fits Rest laws plays (x .book .hosts) (x .book .armed) (x .book .side) (x .book .turn) (x .watch) n (tick W D (x .bus) h) (tick-event W D (x .bus)) (tick-verdicts W D (x .bus))
   fine x n h b k = tick-stands W D left H Alike Fits Rest laws plays (x .book .hosts) (x .bus) (x .book .armed) (x .book .side) (x .book .turn) (x .watch) n h b (k .stands)
 
   answers-as : (x : Use W D H) (n i : ℕ) → Kept W D left H Alike Fits Rest x n → arm-answer W (x .bus .masters) (H .wants (x .hosts)) i ≡ answer (x .book .armed) (H .wants (x .book .hosts)) i
