@@ -112,7 +112,8 @@ module _ (W : Script) (D : Side) where
     where
       go : (ends (lead W l) ≡ true) ⊎ (ends (lead W l) ≡ false) →
           (ends (lead W l) ≡ false → (p′ : W .Cursor) → at (next-live W D l s) i ≡ Some p′ → slots W D k (opened W D (next-live W D l s) (next-side W D l s)) .over ≡ false →
-          at (slots W D k (opened W D (next-live W D l s) (next-side W D l s)) .live) i ≡ Some r → final W D m p′ (next-side W D l s) ≡ final W D n r (slots W D k (opened W D (next-live W D l s) (next-side W D l s)) .side)) →
+          at (slots W D k (opened W D (next-live W D l s) (next-side W D l s)) .live) i ≡ Some r → final W D m p′ (next-side W D l s) ≡ final W D n r
+          (slots W D k (opened W D (next-live W D l s) (next-side W D l s)) .side)) →
           final W D (suc m) p s ≡ final W D n r (slots W D (suc k) (opened W D l s) .side)
       go (inl d) ih = let z = over-later k 0 (slot W D (opened W D l s)) (omega arith) d in let y : _≡_ {A = ℕ} 0 1 = cc in absurd (omega arith)
       go (inr d) ih = two (eqb (rank (lead W l)) (rank (W .symbol p))) refl
@@ -123,12 +124,14 @@ module _ (W : Script) (D : Side) where
           two : (v : Bool) → eqb (rank (lead W l)) (rank (W .symbol p)) ≡ v → final W D (suc m) p s ≡ final W D n r (slots W D (suc k) (opened W D l s) .side)
           two true f =
               let g : W .symbol p ≡ lead W l = rank-inj (W .symbol p) (lead W l) (sym (eqb-true (rank (lead W l)) (rank (W .symbol p)) f)) in
-              let c : at (next-live W D l s) i ≡ Some (W .next p (heard D (lead W l) s)) = at-keep W (lead W l) (heard D (lead W l) s) l i ∙ ap (keep W (lead W l) (heard D (lead W l) s)) a ∙ ap (λ v. cond v (Some (W .next p (heard D (lead W l) s))) None) f in
+              let c : at (next-live W D l s) i ≡ Some (W .next p (heard D (lead W l) s)) = at-keep W (lead W l) (heard D (lead W l) s) l i ∙ ap (keep W (lead W l) (heard D (lead W l) s)) a
+              ∙ ap (λ v. cond v (Some (W .next p (heard D (lead W l) s))) None) f in
               let h = ih d (W .next p (heard D (lead W l) s)) c (sym (ap (λ x. x .over) nx) ∙ o) (sym (ap (λ x. at (x .live) i) nx) ∙ b) in
               let w : final W D (suc m) p s ≡ final W D m (W .next p (heard D (lead W l) s)) (after D (lead W l) s) = rw (g, d) in
               w ∙ h ∙ sym (ap (λ x. final W D n r (x .side)) nx)
           two false f =
-              let c : at (next-live W D l s) i ≡ None = at-keep W (lead W l) (heard D (lead W l) s) l i ∙ ap (keep W (lead W l) (heard D (lead W l) s)) a ∙ ap (λ v. cond v (Some (W .next p (heard D (lead W l) s))) None) f in
+              let c : at (next-live W D l s) i ≡ None = at-keep W (lead W l) (heard D (lead W l) s) l i ∙ ap (keep W (lead W l) (heard D (lead W l) s)) a
+              ∙ ap (λ v. cond v (Some (W .next p (heard D (lead W l) s))) None) f in
               let h = gone W D k (opened W D (next-live W D l s) (next-side W D l s)) i c in
               let y : Some r ≡ None = sym b ∙ ap (λ x. at (x .live) i) nx ∙ h in
               let z : _≡_ {A = ℕ} 0 1 = cc in absurd (omega arith)
@@ -203,17 +206,20 @@ module _ (W : Script) (D : Side) (left : W .Cursor → ℕ) (Alike : W .Cursor �
         differs false e = refl
 
     -- who wins, by the strings alone
-    pub wins-least : (i : ℕ) (q : W .Task) → at l i ≡ Some q → wins W D left q (leader W D left l s0) s0 ≡ true → (j : ℕ) (p : W .Task) → at l j ≡ Some p → lexb (task-string W D left q s0) (task-string W D left p s0) ≡ true
+    pub wins-least : (i : ℕ) (q : W .Task) → at l i ≡ Some q → wins W D left q (leader W D left l s0) s0 ≡ true → (j : ℕ) (p : W .Task) → at l j ≡ Some p →
+        lexb (task-string W D left q s0) (task-string W D left p s0) ≡ true
     wins-least i q a h j p b =
         let x = led i q a in
         let d : same (task-string W D left q s0) (task-string W D left (x .0) s0) ≡ true = sym (ap (λ o. wins W D left q o s0) (x .1)) ∙ h in
         ap (λ u. lexb u (task-string W D left p s0)) (same-of (task-string W D left q s0) (task-string W D left (x .0) s0) d ∙ x .2) ∙ facts i q a .least j (W .begin p) (begun-at W l j p b)
 
-    pub least-wins : (i : ℕ) (q : W .Task) → at l i ≡ Some q → ((j : ℕ) (p : W .Task) → at l j ≡ Some p → lexb (task-string W D left q s0) (task-string W D left p s0) ≡ true) → wins W D left q (leader W D left l s0) s0 ≡ true
+    pub least-wins : (i : ℕ) (q : W .Task) → at l i ≡ Some q → ((j : ℕ) (p : W .Task) → at l j ≡ Some p → lexb (task-string W D left q s0) (task-string W D left p s0) ≡ true) →
+        wins W D left q (leader W D left l s0) s0 ≡ true
     least-wins i q a h =
         let x = led i q a in
         let j = leader-in W D left l s0 (x .0) (x .1) in
-        let e : task-string W D left q s0 ≡ task-string W D left (x .0) s0 = lexb-anti (task-string W D left q s0) (task-string W D left (x .0) s0) (h (j .0) (x .0) (j .1)) (ap (λ u. lexb u (task-string W D left q s0)) (x .2) ∙ facts i q a .least i (W .begin q) (begun-at W l i q a)) in
+        let e : task-string W D left q s0 ≡ task-string W D left (x .0) s0 = lexb-anti (task-string W D left q s0) (task-string W D left (x .0) s0) (h (j .0) (x .0) (j .1))
+        (ap (λ u. lexb u (task-string W D left q s0)) (x .2) ∙ facts i q a .least i (W .begin q) (begun-at W l i q a)) in
         ap (λ o. wins W D left q o s0) (x .1) ∙ ap (λ u. same u (task-string W D left (x .0) s0)) e ∙ same-refl (task-string W D left (x .0) s0)
 
     -- the stop
@@ -237,7 +243,8 @@ module _ (W : Script) (D : Side) (left : W .Cursor → ℕ) (Alike : W .Cursor �
           end-at : isSome (at (slots W D (length t) (opened W D (begins W l) s0) .live) i) ≡ isSome (keep W (lead W ps) (heard D (lead W ps) s) (at ps i))
           end-at = ap (λ n. isSome (at (slots W D n (opened W D (begins W l) s0) .live) i)) (last-slot i q a) ∙ ap isSome (soon-at i)
 
-          go : (v : Bool) → isSome (keep W (lead W ps) (heard D (lead W ps) s) (at ps i)) ≡ v → (w : Bool) (y : W .Task) → same (task-string W D left q s0) (task-string W D left y s0) ≡ w → task-string W D left y s0 ≡ t → w ≡ v
+          go : (v : Bool) → isSome (keep W (lead W ps) (heard D (lead W ps) s) (at ps i)) ≡ v → (w : Bool) (y : W .Task) → same (task-string W D left q s0) (task-string W D left y s0) ≡ w →
+              task-string W D left y s0 ≡ t → w ≡ v
           go true e true y d h = refl
           go false e false y d h = refl
           go true e false y d h =

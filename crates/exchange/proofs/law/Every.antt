@@ -177,7 +177,8 @@ module _ (W : Script) (D : Side) (left : W .Cursor → ℕ) (H : Hosts W) (Alike
 
   made-kept : (cs : List (ℕ × ℕ)) (a : H .State) (s : D .S) → Clocks cs → Rest s → Kept (made W D H cs a s) 159999
   made-kept cs a s c q = record {
-    stands = idle (made W D H cs a s .bus) (armeds W (fresh-masters W cs)) s (watch 0 false [] (spell None [])) (made-cells W cs) (ap (λ ms. bus W D true true false ms s None 0) (made-looks W cs)) (made-armeds W cs) (made-timed W cs c) (made-holding W cs) q (λ j t e. nobody-armed j t e);
+    stands = idle (made W D H cs a s .bus) (armeds W (fresh-masters W cs)) s (watch 0 false [] (spell None [])) (made-cells W cs) (ap (λ ms. bus W D true true false ms s None 0) (made-looks W cs))
+        (made-armeds W cs) (made-timed W cs c) (made-holding W cs) q (λ j t e. nobody-armed j t e);
     hosts = refl;
     wanted = λ j t e. nobody-armed j t e;
     arms = let z = made-count W cs in omega arith;
@@ -257,7 +258,8 @@ module _ (W : Script) (D : Side) (left : W .Cursor → ℕ) (H : Hosts W) (Alike
       g : does W D left H x (ticks t) .told ≤ uses W D left H (does W D left H x (ticks t)) us .told
       g = told-grows W D left H (does W D left H x (ticks t)) us
 
-      go : (1 ≤ count (book-tells W D left H (x .book) (tick-event W D (x .bus)))) ⊎ (((fine x n t (h .0) k .due < n) × (feed W D left H (x .book) (tick-event W D (x .bus)) .armed ≡ x .book .armed)) ⊎ (any (x .book .armed) ≡ false)) →
+      go : (1 ≤ count (book-tells W D left H (x .book) (tick-event W D (x .bus)))) ⊎ (((fine x n t (h .0) k .due < n) × (feed W D left H (x .book) (tick-event W D (x .bus)) .armed ≡ x .book .armed)) ⊎
+          (any (x .book .armed) ≡ false)) →
           (any (feed W D left H (x .book) (tick-event W D (x .bus)) .armed) ≡ true → fine x n t (h .0) k .due < ticks-of us → does W D left H x (ticks t) .told < uses W D left H (does W D left H x (ticks t)) us .told) →
           x .told < uses W D left H (does W D left H x (ticks t)) us .told
       go (inl z) ih = let y = g in let c = ap count (fine x n t (h .0) k .tells) in omega arith

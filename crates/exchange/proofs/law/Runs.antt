@@ -153,7 +153,8 @@ module _ (W : Script) (D : Side) (left : W .Cursor → ℕ) (Alike : W .Cursor �
     pub sums : r + k ≡ 308
 
 module _ (W : Script) (D : Side) (left : W .Cursor → ℕ) (Alike : W .Cursor → W .Cursor → Type 0) where
-  pub spells : (l : List (Option (W .Cursor))) (s0 : D .S) (k r : ℕ) (ps : List (Option (W .Cursor))) (s : D .S) (c : ℕ) → Run W D left Alike l s0 k r ps s → letter D (lead W ps) s ≡ c → spelled W D l s0 k ++ (c ∷ []) ≡ spelled W D l s0 (suc k)
+  pub spells : (l : List (Option (W .Cursor))) (s0 : D .S) (k r : ℕ) (ps : List (Option (W .Cursor))) (s : D .S) (c : ℕ) → Run W D left Alike l s0 k r ps s → letter D (lead W ps) s ≡ c →
+      spelled W D l s0 k ++ (c ∷ []) ≡ spelled W D l s0 (suc k)
   spells l s0 k r ps s c h e = ap (λ x. spelled W D l s0 k ++ (x ∷ [])) (sym e ∙ sym (ap (λ j. letter D (lead W (j .live)) (j .side)) (h .runs)))
 
 module _ (W : Script) (D : Side) (left : W .Cursor → ℕ) (Alike : W .Cursor → W .Cursor → Type 0) (laws : Laws W left Alike) where
@@ -176,7 +177,8 @@ module _ (W : Script) (D : Side) (left : W .Cursor → ℕ) (Alike : W .Cursor �
   pub run-shape : (l : List (Option (W .Cursor))) (s0 : D .S) (k r : ℕ) (cs : List (Cell W)) (s : D .S) → Run W D left Alike l s0 k r (cursors W cs) s → alive W cs ≡ true → Shape W D cs s
   run-shape l s0 k r cs s h v = go (cases-lt (rank (lead W (cursors W cs))) 4) (lead-shown W (cursors W cs))
     where
-      go : (rank (lead W (cursors W cs)) < 4) ⊎ (4 ≤ rank (lead W (cursors W cs))) → (lead W (cursors W cs) ≡ Listen) ⊎ ((i : ℕ) × ((q : W .Cursor) × (at (cursors W cs) i ≡ Some q) × (W .symbol q ≡ lead W (cursors W cs)))) → Shape W D cs s
+      go : (rank (lead W (cursors W cs)) < 4) ⊎ (4 ≤ rank (lead W (cursors W cs))) → (lead W (cursors W cs) ≡ Listen) ⊎
+          ((i : ℕ) × ((q : W .Cursor) × (at (cursors W cs) i ≡ Some q) × (W .symbol q ≡ lead W (cursors W cs)))) → Shape W D cs s
       go (inr a) z = inl (every-at W (λ x. rank x ≡ 4) cs (λ i p e. omega (arith, lead-least W (cursors W cs) i p e, rank-top (W .symbol p))))
       go (inl a) (inl e) = absurd (omega (arith, ap rank e))
       go (inl a) (inr q) =
@@ -206,7 +208,8 @@ module _ (W : Script) (D : Side) (left : W .Cursor → ℕ) (Alike : W .Cursor �
       subst (λ ps. Run W D left Alike l s0 (suc k) r ps (after D x s)) (ap (λ b. keep-all W x b (cursors W cs)) (run-carries l s0 k (suc r) cs s h) ∙ keep-cells W x n (carries W D cs s) cs a)
       (run-next l s0 k r (cursors W cs) s h (ends-rank x (λ z. d (sym a ∙ z))))
 
-  pub run-bit : (l : List (Option (W .Cursor))) (s0 : D .S) (k r : ℕ) (cs : List (Cell W)) (s : D .S) (n : ℕ) → Run W D left Alike l s0 k (suc r) (cursors W cs) s → alive W cs ≡ true → least W cs ≡ n → (n ≡ 1 → ⊥) → (n ≡ 2 → ⊥) →
+  pub run-bit : (l : List (Option (W .Cursor))) (s0 : D .S) (k r : ℕ) (cs : List (Cell W)) (s : D .S) (n : ℕ) → Run W D left Alike l s0 k (suc r) (cursors W cs) s → alive W cs ≡ true →
+      least W cs ≡ n → (n ≡ 1 → ⊥) → (n ≡ 2 → ⊥) →
       Run W D left Alike l s0 (suc k) r (cursors W (advance W (carries W D cs s) (stay W n cs))) (D .bit s (carries W D cs s))
   run-bit l s0 k r cs s n h v e d1 d2 =
       let x = lead W (cursors W cs) in

@@ -58,7 +58,8 @@ module _ (W : Script) (D : Side) (left : W .Cursor → ℕ) (Alike : W .Cursor �
         Stands u os s0 (Some l) (watch (suc k) false v sp) n
     rose : (u : Bus W D) (os : Tasks W) (s0 : D .S) (l : Tasks W) (v : List Bool) (sp : Spell) (cs : List (Cell W)) (k r : ℕ) (s : D .S) (b : Bool) (n : ℕ) →
         u ≡ Fresh W D b cs s → carries W D cs s ≡ b → n + 256 ≡ 513 * r →
-        (v ≡ marked W (early-lost b) l cs) × (sp ≡ spell (Some b) (spelled W D (begins W l) (D .begin s0) k)) → Crew W l os cs → Run W D left Alike (begins W l) (D .begin s0) k r (cursors W cs) s → Fit W D Fits Rest os l s0 →
+        (v ≡ marked W (early-lost b) l cs) × (sp ≡ spell (Some b) (spelled W D (begins W l) (D .begin s0) k)) → Crew W l os cs → Run W D left Alike (begins W l) (D .begin s0) k r (cursors W cs) s →
+        Fit W D Fits Rest os l s0 →
         Stands u os s0 (Some l) (watch (suc k) true v sp) n
     -- c: the bit that counts at the next fall; after a repeated start none does
     high : (u : Bus W D) (os : Tasks W) (s0 : D .S) (l : Tasks W) (v : List Bool) (sp : Spell) (cs : List (Cell W)) (k r : ℕ) (s : D .S) (d : Bool) (c : Option Bool) (e n : ℕ) →
@@ -121,16 +122,20 @@ module _ (W : Script) (D : Side) (left : W .Cursor → ℕ) (Alike : W .Cursor �
       Stands W D left Alike Fits Rest (arm-bus W D u ws i) (arm-book os ws i) s t w n
   arm-stands _ _ _ _ _ _ (idle u os s w cs e a t g q y) =
       idle (arm-bus W D u ws i) (arm-book os ws i) s w (arm-cells W cs ws i)
-      (arm-phase W D true true false (idling W) (λ m p. refl) cs s None 0 u ws i g e) (ap (λ x. arm-book x ws i) a ∙ arm-armeds W cs ws i g) (arm-timed W cs ws i t) (arm-holding W cs ws i g) q (arm-ready Fits os ws i wants y)
+      (arm-phase W D true true false (idling W) (λ m p. refl) cs s None 0 u ws i g e) (ap (λ x. arm-book x ws i) a ∙ arm-armeds W cs ws i g) (arm-timed W cs ws i t) (arm-holding W cs ws i g) q
+      (arm-ready Fits os ws i wants y)
   arm-stands _ _ _ _ _ _ (claims u os s l v sp cs e m g q y) =
       claims (arm-bus W D u ws i) (arm-book os ws i) s l v sp (arm-cells W cs ws i)
-      (arm-phase W D true true false (claimed W) (λ m p. refl) cs s None 0 u ws i (g .holding) e) (m .0 ∙ arm-marked W never l cs ws i, m .1) (arm-crew W l os cs ws i g) (arm-run (begins W l) (D .begin s) 0 308 cs (D .begin s) q) (arm-fit os l s y)
+      (arm-phase W D true true false (claimed W) (λ m p. refl) cs s None 0 u ws i (g .holding) e) (m .0 ∙ arm-marked W never l cs ws i, m .1) (arm-crew W l os cs ws i g)
+      (arm-run (begins W l) (D .begin s) 0 308 cs (D .begin s) q) (arm-fit os l s y)
   arm-stands _ _ _ _ _ _ (begun u os s l v sp cs k n e b c m g q y) =
       begun (arm-bus W D u ws i) (arm-book os ws i) s l v sp (arm-cells W cs ws i) k n
-      (arm-phase W D true false true (opened W k) (λ m p. refl) cs (D .begin s) None 0 u ws i (g .holding) e) b c (m .0 ∙ arm-marked W never l cs ws i, m .1) (arm-crew W l os cs ws i g) (arm-run (begins W l) (D .begin s) 0 308 cs (D .begin s) q) (arm-fit os l s y)
+      (arm-phase W D true false true (opened W k) (λ m p. refl) cs (D .begin s) None 0 u ws i (g .holding) e) b c (m .0 ∙ arm-marked W never l cs ws i, m .1) (arm-crew W l os cs ws i g)
+      (arm-run (begins W l) (D .begin s) 0 308 cs (D .begin s) q) (arm-fit os l s y)
   arm-stands _ _ _ _ _ _ (low u os s0 l v sp cs k r s d h f n e b b′ c m g q y) =
       low (arm-bus W D u ws i) (arm-book os ws i) s0 l v sp (arm-cells W cs ws i) k r s d h f n
-      (arm-phase W D false d true (lowered W f) (λ m p. refl) cs s None (h - f) u ws i (g .holding) e) b b′ c (m .0 ∙ arm-marked W never l cs ws i, m .1) (arm-crew W l os cs ws i g) (arm-run (begins W l) (D .begin s0) k r cs s q) (arm-fit os l s0 y)
+      (arm-phase W D false d true (lowered W f) (λ m p. refl) cs s None (h - f) u ws i (g .holding) e) b b′ c (m .0 ∙ arm-marked W never l cs ws i, m .1) (arm-crew W l os cs ws i g)
+      (arm-run (begins W l) (D .begin s0) k r cs s q) (arm-fit os l s0 y)
   arm-stands _ _ _ _ _ _ (rose u os s0 l v sp cs k r s b n e j c m g q y) =
       rose (arm-bus W D u ws i) (arm-book os ws i) s0 l v sp (arm-cells W cs ws i) k r s b n
       (arm-phase W D true b true (fresh W b) (fresh-keeps W b) cs s (Some b) 0 u ws i (g .holding) e) (ap (λ x. not (x || D .pulls s)) (arm-some W pulls-sda cs ws i) ∙ j) c
@@ -138,4 +143,5 @@ module _ (W : Script) (D : Side) (left : W .Cursor → ℕ) (Alike : W .Cursor �
   arm-stands _ _ _ _ _ _ (high u os s0 l v sp cs k r s d c f n e j o z m g q y) =
       high (arm-bus W D u ws i) (arm-book os ws i) s0 l v sp (arm-cells W cs ws i) k r s d c f n
       (arm-phase W D true d true (settled W f) (λ m p. refl) cs s c 0 u ws i (g .holding) e) (ap (λ x. not (x || D .pulls s)) (arm-some W holds cs ws i) ∙ j) o z
-      (m .0 ∙ arm-marked W never l cs ws i, m .1) (arm-crew W l os cs ws i g) (subst (λ ps. Run W D left Alike (begins W l) (D .begin s0) (suc k) r ps (taken D c s)) (sym (arm-advance W (valueOr c true) cs ws i)) q) (arm-fit os l s0 y)
+      (m .0 ∙ arm-marked W never l cs ws i, m .1) (arm-crew W l os cs ws i g) (subst (λ ps. Run W D left Alike (begins W l) (D .begin s0) (suc k) r ps (taken D c s))
+      (sym (arm-advance W (valueOr c true) cs ws i)) q) (arm-fit os l s0 y)

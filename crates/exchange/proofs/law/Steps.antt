@@ -157,7 +157,8 @@ module _ (W : Script) (D : Side) (left : W .Cursor → ℕ) (H : Hosts W) (Alike
   -- what a tick to the bus u with the event e and the verdicts ks does; due: how many ticks are then left at the most until an outcome is told
   pub record Fine (hs : H .State) (os : Tasks W) (s : D .S) (t : Option (Tasks W)) (w : Watch) (n : ℕ) (u : Bus W D) (e : Event) (ks : List (VerdictModel W)) : Type 0 where
     pub due : ℕ
-    pub stands : Stands W D left Alike Fits Rest u (feed W D left H (book W D H hs os s t) e .armed) (feed W D left H (book W D H hs os s t) e .side) (feed W D left H (book W D H hs os s t) e .turn) (sees W w os t e ks) due
+    pub stands : Stands W D left Alike Fits Rest u (feed W D left H (book W D H hs os s t) e .armed) (feed W D left H (book W D H hs os s t) e .side) (feed W D left H (book W D H hs os s t) e .turn)
+        (sees W w os t e ks) due
     pub tells : tellings W ks ≡ book-tells W D left H (book W D H hs os s t) e
     pub counts : count (feed W D left H (book W D H hs os s t) e .armed) + count (book-tells W D left H (book W D H hs os s t) e) ≡ count os
     pub loses : (i : ℕ) → getD ks i quiet ≡ lost → Loses W D left t s (w .marked) (turned W w os t e) i
@@ -240,7 +241,14 @@ module _ (W : Script) (D : Side) (left : W .Cursor → ℕ) (H : Hosts W) (Alike
           (inl (omega arith))
           (claims (Claimed W D (claim-all W cs) s) os s os (falses os) (spell None []) (claim-all W cs) refl
           (ap falses a ∙ marked-claim W cs ∙ ap (λ z. marked W never z (claim-all W cs)) (sym a), refl)
-          (record { armed = a ∙ sym (armeds-claim W cs); timed = timed-claim W cs t; living = alive-claim W cs ∙ ap any (sym a) ∙ v; holding = holding-claim W cs; within = subst (λ l. Within W l (claim-all W cs)) (sym a) (within-claim W cs) })
+          (record {
+            armed = a ∙ sym (armeds-claim W cs);
+            timed = timed-claim W cs t;
+            living = alive-claim W cs ∙ ap any (sym a)
+                ∙ v;
+            holding = holding-claim W cs;
+            within = subst (λ l. Within W l (claim-all W cs)) (sym a) (within-claim W cs);
+          })
           (subst (λ ps. Run W D left Alike (begins W os) (D .begin s) 0 308 ps (D .begin s)) (ap (begins W) a ∙ sym (cursors-claim W cs)) (first-run os s q y)) (record { armed = y; turn = y; rest = q }))
       go false v =
           plain hs (Free W D cs s) cs os s None None w (noted W w (notes W (no-verdict W) cs)) 159999 159999 h (Free W D (claim-all W cs) s) SteadyHigh a
@@ -257,7 +265,8 @@ module _ (W : Script) (D : Side) (left : W .Cursor → ℕ) (H : Hosts W) (Alike
       (claimed-starts W D cs s h (g .timed) (g .living)) refl (claimed-quiet W cs) refl refl start-no (ap (λ x. watch 0 false x sp) (marks-none W v cs)) (inl (omega arith))
       (begun (Opened W D cs (D .begin s) 0) os s l v sp cs 0 158261 refl (omega arith) (omega arith) m g r y)
 
-  tick-begun : (hs : H .State) (os : Tasks W) (s : D .S) (l : Tasks W) (v : List Bool) (sp : Spell) (cs : List (Cell W)) (e n h : ℕ) → e ≤ 255 → n + e ≡ 158261 → (v ≡ marked W never l cs) × (sp ≡ spell None []) → Crew W l os cs →
+  tick-begun : (hs : H .State) (os : Tasks W) (s : D .S) (l : Tasks W) (v : List Bool) (sp : Spell) (cs : List (Cell W)) (e n h : ℕ) → e ≤ 255 → n + e ≡ 158261 →
+      (v ≡ marked W never l cs) × (sp ≡ spell None []) → Crew W l os cs →
       Run W D left Alike (begins W l) (D .begin s) 0 308 (cursors W cs) (D .begin s) → Fit W D Fits Rest os l s → Real hs (Opened W D cs (D .begin s) e) os s (Some l) (watch 0 false v sp) n h
   tick-begun hs os s l v sp cs e n h b c m g r y = go (any-scl W (looks W (opened W e) cs)) refl
     where
@@ -269,11 +278,14 @@ module _ (W : Script) (D : Side) (left : W .Cursor → ℕ) (H : Hosts W) (Alike
           (begun (Opened W D cs (D .begin s) (e + 1)) os s l v sp cs (e + 1) (n - 1) refl (omega arith) (omega arith) m g r y)
       go true x =
           plain hs (Opened W D cs (D .begin s) e) cs os s (Some l) (Some l) (watch 0 false v sp) (watch 1 false v (fallen (sp .latched) (sp .letters))) n 158004 h (Low W D false cs (D .begin s) 0 0) Fall (g .armed)
-          (opened-falls W D cs (D .begin s) e h (g .timed) (g .living) x) refl (opened-fall-quiet W e cs) refl refl fall-no (ap (λ x. watch 1 false x (fallen (sp .latched) (sp .letters))) (marks-none W v cs)) (inl (omega arith))
-          (low (Low W D false cs (D .begin s) 0 0) os s l v (fallen (sp .latched) (sp .letters)) cs 0 308 (D .begin s) false 0 0 158004 refl (omega arith) (omega arith) (omega arith) (m .0, ap (λ x. fallen (x .latched) (x .letters)) (m .1)) g r y)
+          (opened-falls W D cs (D .begin s) e h (g .timed) (g .living) x) refl (opened-fall-quiet W e cs) refl refl fall-no
+          (ap (λ x. watch 1 false x (fallen (sp .latched) (sp .letters))) (marks-none W v cs)) (inl (omega arith))
+          (low (Low W D false cs (D .begin s) 0 0) os s l v (fallen (sp .latched) (sp .letters)) cs 0 308 (D .begin s) false 0 0 158004 refl (omega arith) (omega arith) (omega arith)
+          (m .0, ap (λ x. fallen (x .latched) (x .letters)) (m .1)) g r y)
 
   -- a mark in the slot k
-  loses-here : (sp : Spell) (s0 : D .S) (l os : Tasks W) (v : List Bool) (f lo : Symbol → Bool) (j : Symbol → W .Cursor → VerdictModel W) (each : (x : Symbol) (p : W .Cursor) → is-lost W (j x p) ≡ lo x) (cs : List (Cell W)) (k r : ℕ) (s : D .S) →
+  loses-here : (sp : Spell) (s0 : D .S) (l os : Tasks W) (v : List Bool) (f lo : Symbol → Bool) (j : Symbol → W .Cursor → VerdictModel W)
+      (each : (x : Symbol) (p : W .Cursor) → is-lost W (j x p) ≡ lo x) (cs : List (Cell W)) (k r : ℕ) (s : D .S) →
       v ≡ marked W f l cs → Crew W l os cs → Run W D left Alike (begins W l) (D .begin s0) k r (cursors W cs) s →
       ((x : Symbol) → lo x ≡ true → f x ≡ false) → ((x : Symbol) → lo x ≡ true → x ≡ lead W (cursors W cs) → ⊥) →
       (i : ℕ) → getD (notes W j cs) i quiet ≡ lost → Loses W D left (Some l) s0 v (watch (suc k) true v sp) i
@@ -297,7 +309,8 @@ module _ (W : Script) (D : Side) (left : W .Cursor → ℕ) (H : Hosts W) (Alike
       }
 
   tick-low : (hs : H .State) (os : Tasks W) (s0 : D .S) (l : Tasks W) (v : List Bool) (sp : Spell) (cs : List (Cell W)) (k r : ℕ) (s : D .S) (d : Bool) (f e n h : ℕ) → f ≤ 255 → e ≤ 255 → n + e ≡ 513 * r →
-      (v ≡ marked W never l cs) × (sp ≡ spell None (spelled W D (begins W l) (D .begin s0) k)) → Crew W l os cs → Run W D left Alike (begins W l) (D .begin s0) k r (cursors W cs) s → Fit W D Fits Rest os l s0 → Real hs (Low W D d cs s f e) os s0 (Some l) (watch (suc k) false v sp) n h
+      (v ≡ marked W never l cs) × (sp ≡ spell None (spelled W D (begins W l) (D .begin s0) k)) → Crew W l os cs → Run W D left Alike (begins W l) (D .begin s0) k r (cursors W cs) s →
+      Fit W D Fits Rest os l s0 → Real hs (Low W D d cs s f e) os s0 (Some l) (watch (suc k) false v sp) n h
   tick-low hs os s0 l v sp cs k r s d f e n h b b′ c m g run y = go (held W D cs f e) refl
     where
       some-r : 1 ≤ r
@@ -321,12 +334,14 @@ module _ (W : Script) (D : Side) (left : W .Cursor → ℕ) (H : Hosts W) (Alike
           (silent hs os s0 (Some l) (Some l) (watch (suc k) false v sp) (watch (suc k) true (marked W (early-lost o) l cs) (spell (Some o) (sp .letters))) n (513 * r - 256) (Fresh W D o cs s) (Rise o) ks
           refl refl (rise-no o) (ap (λ x. watch (suc k) true x (spell (Some o) (sp .letters))) (ap (λ x. marks-too W x ks) (m .0) ∙ marked-more W never (early-lost o) (early W o) (early-is W o) l cs (g .within)))
           (tells-none W (early W o) (early-mute W o) cs ∙ ap nobody (sym (g .armed)))
-          (loses-here (spell (Some o) (sp .letters)) s0 l os v never (early-lost o) (early W o) (early-is W o) cs k r s (m .0) g run (λ x e. refl) (λ x e z. early-behind D x s o e (ap (λ y. heard D y s) z ∙ run-carries W D left Alike laws (begins W l) (D .begin s0) k r cs s run)))
+          (loses-here (spell (Some o) (sp .letters)) s0 l os v never (early-lost o) (early W o) (early-is W o) cs k r s (m .0) g run (λ x e. refl)
+          (λ x e z. early-behind D x s o e (ap (λ y. heard D y s) z ∙ run-carries W D left Alike laws (begins W l) (D .begin s0) k r cs s run)))
           (inl (omega arith))
           (rose (Fresh W D o cs s) os s0 l (marked W (early-lost o) l cs) (spell (Some o) (sp .letters)) cs k r s o (513 * r - 256) refl refl (omega arith) (refl, ap (λ x. spell (Some o) (x .letters)) (m .1)) g run y))
 
   tick-high : (hs : H .State) (os : Tasks W) (s0 : D .S) (l : Tasks W) (v : List Bool) (sp : Spell) (cs : List (Cell W)) (k r : ℕ) (s : D .S) (d : Bool) (c : Option Bool) (e n h : ℕ) → h ≤ 255 →
-      not (some W holds cs || D .pulls s) ≡ d → e ≤ 255 → n + 257 + e ≡ 513 * suc r → (v ≡ marked W never l cs) × (fallen (sp .latched) (sp .letters) ≡ spell None (spelled W D (begins W l) (D .begin s0) (suc k))) → Crew W l os cs →
+      not (some W holds cs || D .pulls s) ≡ d → e ≤ 255 → n + 257 + e ≡ 513 * suc r → (v ≡ marked W never l cs) × (fallen (sp .latched) (sp .letters) ≡ spell None
+      (spelled W D (begins W l) (D .begin s0) (suc k))) → Crew W l os cs →
       Run W D left Alike (begins W l) (D .begin s0) (suc k) r (cursors W (advance W (valueOr c true) cs)) (taken D c s) → Fit W D Fits Rest os l s0 →
       Real hs (Settled W D d c cs s e) os s0 (Some l) (watch (suc k) true v sp) n h
   tick-high hs os s0 l v sp cs k r s d c e n h hh j o z m g run y = go (any-scl W (looks W (settled W e) cs)) refl
@@ -339,17 +354,22 @@ module _ (W : Script) (D : Side) (left : W .Cursor → ℕ) (H : Hosts W) (Alike
           let k′ : e < 255 = elim (cases-lt e 255) [ inl z ↦ z | inr z ↦ let y = settled-ends W cs e (g .timed) (g .living) z in let w : _≡_ {A = ℕ} 0 1 = cc in absurd (omega arith) ] in
           let rr = some-r in
           plain hs (Settled W D d c cs s e) cs os s0 (Some l) (Some l) (watch (suc k) true v sp) (watch (suc k) true v sp) n (n - 1) h (Settled W D d c cs s (e + 1)) SteadyHigh (g .armed)
-          (settled-stays W D d c cs s e h (g .timed) j x) (steady d) (ap (λ ev. verdicts W (looks W (settled W e) cs) (shown ev (counted c ev) false)) (steady d) ∙ settled-quiet W e cs) refl refl high-no (ap (λ x. watch (suc k) true x sp) (marks-none W v cs)) (inl (omega arith))
+          (settled-stays W D d c cs s e h (g .timed) j x) (steady d) (ap (λ ev. verdicts W (looks W (settled W e) cs) (shown ev (counted c ev) false)) (steady d) ∙ settled-quiet W e cs) refl refl
+          high-no (ap (λ x. watch (suc k) true x sp) (marks-none W v cs)) (inl (omega arith))
           (high (Settled W D d c cs s (e + 1)) os s0 l v sp cs k r s d c (e + 1) (n - 1) refl j (omega arith) (omega arith) m g run y)
       go true x =
           let b = valueOr c true in
-          plain hs (Settled W D d c cs s e) cs os s0 (Some l) (Some l) (watch (suc k) true v sp) (watch (suc (suc k)) false v (fallen (sp .latched) (sp .letters))) n (513 * r) h (Low W D d (advance W b cs) (taken D c s) (asked c h) 0) Fall (g .armed)
-          (settled-falls W D d c cs s e h (g .timed) j x) refl (settled-fall-quiet W c e cs) refl refl fall-no (ap (λ x. watch (suc (suc k)) false x (fallen (sp .latched) (sp .letters))) (marks-none W v cs)) (inl (omega arith))
-          (low (Low W D d (advance W b cs) (taken D c s) (asked c h) 0) os s0 l v (fallen (sp .latched) (sp .letters)) (advance W b cs) (suc k) r (taken D c s) d (asked c h) 0 (513 * r) refl (asked-to c h hh) (omega arith) (omega arith) (m .0 ∙ sym (marked-advance W b l cs), m .1) (crew-advance W b l os cs g) run y)
+          plain hs (Settled W D d c cs s e) cs os s0 (Some l) (Some l) (watch (suc k) true v sp) (watch (suc (suc k)) false v (fallen (sp .latched) (sp .letters))) n (513 * r) h
+          (Low W D d (advance W b cs) (taken D c s) (asked c h) 0) Fall (g .armed)
+          (settled-falls W D d c cs s e h (g .timed) j x) refl (settled-fall-quiet W c e cs) refl refl fall-no
+          (ap (λ x. watch (suc (suc k)) false x (fallen (sp .latched) (sp .letters))) (marks-none W v cs)) (inl (omega arith))
+          (low (Low W D d (advance W b cs) (taken D c s) (asked c h) 0) os s0 l v (fallen (sp .latched) (sp .letters)) (advance W b cs) (suc k) r (taken D c s) d (asked c h) 0 (513 * r) refl
+          (asked-to c h hh) (omega arith) (omega arith) (m .0 ∙ sym (marked-advance W b l cs), m .1) (crew-advance W b l os cs g) run y)
 
   -- the tick after the rise: a bit
   fresh-bit : (hs : H .State) (os : Tasks W) (s0 : D .S) (l : Tasks W) (v : List Bool) (sp : Spell) (cs : List (Cell W)) (k r : ℕ) (s : D .S) (b : Bool) (n h j : ℕ) →
-      carries W D cs s ≡ b → n + 256 ≡ 513 * r → (v ≡ marked W (early-lost b) l cs) × (sp ≡ spell (Some b) (spelled W D (begins W l) (D .begin s0) k)) → Crew W l os cs → Run W D left Alike (begins W l) (D .begin s0) k r (cursors W cs) s → Fit W D Fits Rest os l s0 →
+      carries W D cs s ≡ b → n + 256 ≡ 513 * r → (v ≡ marked W (early-lost b) l cs) × (sp ≡ spell (Some b) (spelled W D (begins W l) (D .begin s0) k)) → Crew W l os cs →
+      Run W D left Alike (begins W l) (D .begin s0) k r (cursors W cs) s → Fit W D Fits Rest os l s0 →
       least W cs ≡ j → j ≤ 4 → (j ≡ 1 → ⊥) → (j ≡ 2 → ⊥) → tick W D (Fresh W D b cs s) h ≡ Settled W D b (Some b) (stay W j cs) s 1 → tick-verdicts W D (Fresh W D b cs s) ≡ notes W (late W j) cs →
       not (some W holds (stay W j cs) || D .pulls s) ≡ b → Every W (λ x. (early-lost b x || late-lost j x) ≡ not (eqb (rank x) j)) cs →
       Real hs (Fresh W D b cs s) os s0 (Some l) (watch (suc k) true v sp) n h
@@ -361,12 +381,15 @@ module _ (W : Script) (D : Side) (left : W .Cursor → ℕ) (H : Hosts W) (Alike
       by-tick hs u os s0 (Some l) (watch (suc k) true v sp) n h u′ ks q f
       (subst (λ x. Fine hs os s0 (Some l) (watch (suc k) true v sp) n u′ x ks) (sym (steady b))
       (silent hs os s0 (Some l) (Some l) (watch (suc k) true v sp) (watch (suc k) true (marked W never l (stay W j cs)) sp) n (n - 2) u′ SteadyHigh ks
-      refl refl high-no (ap (λ x. watch (suc k) true x sp) (ap (λ x. marks-too W x ks) (m .0) ∙ marked-more W (early-lost b) (late-lost j) (late W j) (late-is W j) l cs (g .within) ∙ marked-stay W (λ x. early-lost b x || late-lost j x) j l cs ev))
+      refl refl high-no (ap (λ x. watch (suc k) true x sp) (ap (λ x. marks-too W x ks) (m .0) ∙ marked-more W (early-lost b) (late-lost j) (late W j) (late-is W j) l cs (g .within)
+      ∙ marked-stay W (λ x. early-lost b x || late-lost j x) j l cs ev))
       (tells-none W (late W j) (late-mute W j j1) cs ∙ ap nobody (sym (g .armed)))
-      (loses-here sp s0 l os v (early-lost b) (late-lost j) (late W j) (late-is W j) cs k (suc r) s (m .0) g run (λ x a. late-new j x b (λ p. absurd (j2 p)) a) (λ x a p. late-behind j x a (ap rank p ∙ leads W cs (g .living) ∙ e)))
+      (loses-here sp s0 l os v (early-lost b) (late-lost j) (late W j) (late-is W j) cs k (suc r) s (m .0) g run (λ x a. late-new j x b (λ p. absurd (j2 p)) a)
+      (λ x a p. late-behind j x a (ap rank p ∙ leads W cs (g .living) ∙ e)))
       (inl (omega arith))
       (high u′ os s0 l (marked W never l (stay W j cs)) sp (stay W j cs) k r s b (Some b) 1 (n - 2) refl d (omega arith) (omega arith) (refl, spells-on) (crew-stay W j l os cs e j4 g)
-      (subst (λ x. Run W D left Alike (begins W l) (D .begin s0) (suc k) r (cursors W (advance W x (stay W j cs))) (D .bit s x)) c (run-bit W D left Alike laws (begins W l) (D .begin s0) k r cs s j run (g .living) e j1 j2)) y)))
+      (subst (λ x. Run W D left Alike (begins W l) (D .begin s0) (suc k) r (cursors W (advance W x (stay W j cs))) (D .bit s x)) c
+      (run-bit W D left Alike laws (begins W l) (D .begin s0) k r cs s j run (g .living) e j1 j2)) y)))
     where
       at-lead : rank (lead W (cursors W cs)) ≡ j
       at-lead = leads W cs (g .living) ∙ e
@@ -377,7 +400,8 @@ module _ (W : Script) (D : Side) (left : W .Cursor → ℕ) (H : Hosts W) (Alike
 
   -- a repeated Start
   fresh-again : (hs : H .State) (os : Tasks W) (s0 : D .S) (l : Tasks W) (v : List Bool) (sp : Spell) (cs : List (Cell W)) (k r : ℕ) (s : D .S) (n h : ℕ) →
-      carries W D cs s ≡ true → n + 256 ≡ 513 * r → (v ≡ marked W (early-lost true) l cs) × (sp ≡ spell (Some true) (spelled W D (begins W l) (D .begin s0) k)) → Crew W l os cs → Run W D left Alike (begins W l) (D .begin s0) k r (cursors W cs) s → Fit W D Fits Rest os l s0 →
+      carries W D cs s ≡ true → n + 256 ≡ 513 * r → (v ≡ marked W (early-lost true) l cs) × (sp ≡ spell (Some true) (spelled W D (begins W l) (D .begin s0) k)) → Crew W l os cs →
+      Run W D left Alike (begins W l) (D .begin s0) k r (cursors W cs) s → Fit W D Fits Rest os l s0 →
       least W cs ≡ 2 → tick W D (Fresh W D true cs s) h ≡ Settled W D false None (stay W 2 cs) (D .begin s) 0 → tick-verdicts W D (Fresh W D true cs s) ≡ notes W (late W 2) cs →
       Every W (λ x. (early-lost true x || late-lost 2 x) ≡ not (eqb (rank x) 2)) cs →
       Real hs (Fresh W D true cs s) os s0 (Some l) (watch (suc k) true v sp) n h
@@ -389,17 +413,25 @@ module _ (W : Script) (D : Side) (left : W .Cursor → ℕ) (H : Hosts W) (Alike
       let hr = holds-restart W cs e in
       by-tick hs u os s0 (Some l) (watch (suc k) true v sp) n h u′ ks q f
       (silent hs os s0 (Some l) (Some l) (watch (suc k) true v sp) (watch (suc k) true (marked W never l (stay W 2 cs)) (spell None (sp .letters ++ (2 ∷ [])))) n (n - 1) u′ Start ks
-      refl refl start-no (ap (λ x. watch (suc k) true x (spell None (sp .letters ++ (2 ∷ [])))) (ap (λ x. marks-too W x ks) (m .0) ∙ marked-more W (early-lost true) (late-lost 2) (late W 2) (late-is W 2) l cs (g .within) ∙ marked-stay W (λ x. early-lost true x || late-lost 2 x) 2 l cs ev))
+      refl refl start-no (ap (λ x. watch (suc k) true x (spell None (sp .letters ++ (2 ∷ [])))) (ap (λ x. marks-too W x ks) (m .0)
+      ∙ marked-more W (early-lost true) (late-lost 2) (late W 2) (late-is W 2) l cs (g .within) ∙ marked-stay W (λ x. early-lost true x || late-lost 2 x) 2 l cs ev))
       (tells-none W (late W 2) (late-mute W 2 (omega arith)) cs ∙ ap nobody (sym (g .armed)))
-      (loses-here (spell None (sp .letters ++ (2 ∷ []))) s0 l os v (early-lost true) (late-lost 2) (late W 2) (late-is W 2) cs k (suc r) s (m .0) g run (λ x a. late-new 2 x true (λ p. refl) a) (λ x a p. late-behind 2 x a (ap rank p ∙ leads W cs (g .living) ∙ e)))
+      (loses-here (spell None (sp .letters ++ (2 ∷ []))) s0 l os v (early-lost true) (late-lost 2) (late W 2) (late-is W 2) cs k (suc r) s (m .0) g run (λ x a. late-new 2 x true (λ p. refl) a)
+      (λ x a p. late-behind 2 x a (ap rank p ∙ leads W cs (g .living) ∙ e)))
       (inl (omega arith))
-      (high u′ os s0 l (marked W never l (stay W 2 cs)) (spell None (sp .letters ++ (2 ∷ []))) (stay W 2 cs) k r (D .begin s) false None 0 (n - 1) refl (ap (λ x. not (x || D .pulls (D .begin s))) hr) (omega arith) (omega arith)
-      (refl, ap (λ x. spell None (x .letters ++ (2 ∷ []))) (m .1) ∙ ap (spell None) (spells W D left Alike (begins W l) (D .begin s0) k (suc r) (cursors W cs) s 2 run (letter-again D (lead W (cursors W cs)) s (leads W cs (g .living) ∙ e)))) (crew-stay W 2 l os cs e (omega arith) g)
-      (subst (λ x. Run W D left Alike (begins W l) (D .begin s0) (suc k) r (cursors W (advance W x (stay W 2 cs))) (D .begin s)) c (run-again W D left Alike laws (begins W l) (D .begin s0) k r cs s run (g .living) e)) y))
+      (high u′ os s0 l (marked W never l (stay W 2 cs)) (spell None (sp .letters ++ (2 ∷ []))) (stay W 2 cs) k r (D .begin s) false None 0 (n - 1) refl (ap (λ x. not (x || D .pulls (D .begin s))) hr)
+      (omega arith) (omega arith) (
+        refl,
+        ap (λ x. spell None (x .letters ++ (2 ∷ []))) (m .1) ∙ ap (spell None) (spells W D left Alike (begins W l) (D .begin s0) k (suc r) (cursors W cs) s 2 run
+            (letter-again D (lead W (cursors W cs)) s (leads W cs (g .living) ∙ e))),
+      ) (crew-stay W 2 l os cs e (omega arith) g)
+      (subst (λ x. Run W D left Alike (begins W l) (D .begin s0) (suc k) r (cursors W (advance W x (stay W 2 cs))) (D .begin s)) c
+      (run-again W D left Alike laws (begins W l) (D .begin s0) k r cs s run (g .living) e)) y))
 
   -- the Stop
   fresh-stop : (hs : H .State) (os : Tasks W) (s0 : D .S) (l : Tasks W) (v : List Bool) (sp : Spell) (cs : List (Cell W)) (k r : ℕ) (s : D .S) (n h : ℕ) →
-      (v ≡ marked W (early-lost false) l cs) × (sp ≡ spell (Some false) (spelled W D (begins W l) (D .begin s0) k)) → Crew W l os cs → Run W D left Alike (begins W l) (D .begin s0) k r (cursors W cs) s → Fit W D Fits Rest os l s0 →
+      (v ≡ marked W (early-lost false) l cs) × (sp ≡ spell (Some false) (spelled W D (begins W l) (D .begin s0) k)) → Crew W l os cs →
+      Run W D left Alike (begins W l) (D .begin s0) k r (cursors W cs) s → Fit W D Fits Rest os l s0 →
       least W cs ≡ 1 → tick W D (Fresh W D false cs s) h ≡ Free W D (finished W cs) (D .finish s) → tick-verdicts W D (Fresh W D false cs s) ≡ notes W (late W 1) cs →
       Every W (λ x. (1 ≤ rank x) × (rank x ≤ 3)) cs →
       Real hs (Fresh W D false cs s) os s0 (Some l) (watch (suc k) true v sp) n h
@@ -407,12 +439,14 @@ module _ (W : Script) (D : Side) (left : W .Cursor → ℕ) (H : Hosts W) (Alike
       by-tick hs (Fresh W D false cs s) os s0 (Some l) (watch (suc k) true v sp) n h (Free W D (finished W cs) (D .finish s)) (notes W (late W 1) cs) q f
       (record {
         due = 159999;
-        stands = idle (Free W D (finished W cs) (D .finish s)) (disarm os ts) (leader-side W D left (leader W D left l (D .begin s0)) (D .begin s0)) (sees W (watch (suc k) true v sp) os (Some l) Stop (notes W (late W 1) cs)) (finished W cs)
+        stands = idle (Free W D (finished W cs) (D .finish s)) (disarm os ts) (leader-side W D left (leader W D left l (D .begin s0)) (D .begin s0))
+            (sees W (watch (suc k) true v sp) os (Some l) Stop (notes W (late W 1) cs)) (finished W cs)
             (ap (Free W D (finished W cs)) (sym side)) (ap₂ (disarm) (g .armed) (sym told-is) ∙ sym (armeds-finished W cs)) (timed-finished W cs (g .timed)) (holding-finished W cs) rested
             (λ j p a. y .armed j p (disarmed os ts j p a .0));
         tells = tells-end W cs ∙ told-is;
         counts = ap₂ (λ a b. count (disarm a b) + count b) (g .armed) (sym told-is) ∙ counts-end W cs (g .holding) ∙ ap count (sym (g .armed));
-        loses = loses-here (spell None (sp .letters ++ (1 ∷ []))) s0 l os v (early-lost false) (late-lost 1) (late W 1) (late-is W 1) cs k r s (m .0) g run (λ x a. late-new 1 x false (λ p. absurd (omega arith)) a) (λ x a p. late-behind 1 x a (ap rank p ∙ leads W cs (g .living) ∙ e));
+        loses = loses-here (spell None (sp .letters ++ (1 ∷ []))) s0 l os v (early-lost false) (late-lost 1) (late W 1) (late-is W 1) cs k r s (m .0) g run
+            (λ x a. late-new 1 x false (λ p. absurd (omega arith)) a) (λ x a p. late-behind 1 x a (ap rank p ∙ leads W cs (g .living) ∙ e));
         stops = λ st l′ el i p a.
             let z : l ≡ l′ = cc in
             subst (λ x. Stopped W D left x s0 v (tellings W (notes W (late W 1) cs)) i p) z (stopped i p (ap (λ x. at x i) z ∙ a));
@@ -452,7 +486,12 @@ module _ (W : Script) (D : Side) (left : W .Cursor → ℕ) (H : Hosts W) (Alike
           let a = alive-at W cs (g .living) in
           let b = contender W l cs (g .within) (a .0) (a .1 .0) (a .1 .1) in
           let x = stop-spells W D left Alike laws l (D .begin s0) k r (cursors W cs) s run stops-here (a .0) (b .0) (b .1) in
-          record { least = x .0; leads = x .1; whole = ap (λ x. x .letters ++ (1 ∷ [])) (m .1) ∙ spells W D left Alike (begins W l) (D .begin s0) k r (cursors W cs) s 1 run (letter-stop D (lead W (cursors W cs)) s stops-here) ∙ x .2 }
+          record {
+            least = x .0;
+            leads = x .1;
+            whole = ap (λ x. x .letters ++ (1 ∷ [])) (m .1) ∙ spells W D left Alike (begins W l) (D .begin s0) k r (cursors W cs) s 1 run
+                (letter-stop D (lead W (cursors W cs)) s stops-here) ∙ x .2;
+          }
 
       side : leader-side W D left (leader W D left l (D .begin s0)) (D .begin s0) ≡ D .finish s
       side =
@@ -461,14 +500,16 @@ module _ (W : Script) (D : Side) (left : W .Cursor → ℕ) (H : Hosts W) (Alike
           stop-side W D left Alike laws l (D .begin s0) k r (cursors W cs) s run stops-here (a .0) (b .0) (b .1)
 
   tick-rises : (hs : H .State) (os : Tasks W) (s0 : D .S) (l : Tasks W) (v : List Bool) (sp : Spell) (cs : List (Cell W)) (k r : ℕ) (s : D .S) (b : Bool) (n h j : ℕ) → least W cs ≡ j → j ≤ 4 →
-      carries W D cs s ≡ b → n + 256 ≡ 513 * r → (v ≡ marked W (early-lost b) l cs) × (sp ≡ spell (Some b) (spelled W D (begins W l) (D .begin s0) k)) → Crew W l os cs → Run W D left Alike (begins W l) (D .begin s0) k r (cursors W cs) s → Fit W D Fits Rest os l s0 →
+      carries W D cs s ≡ b → n + 256 ≡ 513 * r → (v ≡ marked W (early-lost b) l cs) × (sp ≡ spell (Some b) (spelled W D (begins W l) (D .begin s0) k)) → Crew W l os cs →
+      Run W D left Alike (begins W l) (D .begin s0) k r (cursors W cs) s → Fit W D Fits Rest os l s0 →
       Shape W D cs s → Real hs (Fresh W D b cs s) os s0 (Some l) (watch (suc k) true v sp) n h
   tick-rises hs os s0 l v sp cs k r s b n h zero e j4 c z m g run y q =
       let x = fresh-zero W D cs s h (g .timed) q e in
       let w = shaped W D 0 cs s (omega arith) e q in
       let o = holds-zero W cs e in
       subst (λ b. (v ≡ marked W (early-lost b) l cs) × (sp ≡ spell (Some b) (spelled W D (begins W l) (D .begin s0) k)) → Real hs (Fresh W D b cs s) os s0 (Some l) (watch (suc k) true v sp) n h) (sym (x .0) ∙ c)
-      (λ m. fresh-bit hs os s0 l v sp cs k r s false n h 0 (x .0) z m g run y e j4 (omega arith) (omega arith) (x .1) (x .2) (cc) (every W (λ x. (0 ≤ rank x) × (rank x ≤ 3)) (λ x. (early-lost false x || late-lost 0 x) ≡ not (eqb (rank x) 0)) (slot-low 0 (omega arith)) cs (w .0))) m
+      (λ m. fresh-bit hs os s0 l v sp cs k r s false n h 0 (x .0) z m g run y e j4 (omega arith) (omega arith) (x .1) (x .2) (cc)
+      (every W (λ x. (0 ≤ rank x) × (rank x ≤ 3)) (λ x. (early-lost false x || late-lost 0 x) ≡ not (eqb (rank x) 0)) (slot-low 0 (omega arith)) cs (w .0))) m
   tick-rises hs os s0 l v sp cs k r s b n h (suc zero) e j4 c z m g run y q =
       let x = fresh-end W D cs s h (g .timed) q e in
       let w = shaped W D 1 cs s (omega arith) e q in
@@ -478,14 +519,16 @@ module _ (W : Script) (D : Side) (left : W .Cursor → ℕ) (H : Hosts W) (Alike
       let x = fresh-restart W D cs s h (g .timed) q e in
       let w = shaped W D 2 cs s (omega arith) e q in
       subst (λ b. (v ≡ marked W (early-lost b) l cs) × (sp ≡ spell (Some b) (spelled W D (begins W l) (D .begin s0) k)) → Real hs (Fresh W D b cs s) os s0 (Some l) (watch (suc k) true v sp) n h) (sym (x .0) ∙ c)
-      (λ m. fresh-again hs os s0 l v sp cs k r s n h (x .0) z m g run y e (x .1) (x .2) (every W (λ x. (2 ≤ rank x) × (rank x ≤ 3)) (λ x. (early-lost true x || late-lost 2 x) ≡ not (eqb (rank x) 2)) (slot-high 2 (omega arith) (omega arith)) cs (w .0))) m
+      (λ m. fresh-again hs os s0 l v sp cs k r s n h (x .0) z m g run y e (x .1) (x .2) (every W (λ x. (2 ≤ rank x) × (rank x ≤ 3)) (λ x. (early-lost true x || late-lost 2 x) ≡ not (eqb (rank x) 2))
+      (slot-high 2 (omega arith) (omega arith)) cs (w .0))) m
   tick-rises hs os s0 l v sp cs k r s b n h (suc (suc (suc zero))) e j4 c z m g run y q =
       let x = fresh-one W D cs s h (g .timed) q e in
       let w = shaped W D 3 cs s (omega arith) e q in
       let f = w .1 in
       let o = holds-not W 3 cs (omega arith) e in
       subst (λ b. (v ≡ marked W (early-lost b) l cs) × (sp ≡ spell (Some b) (spelled W D (begins W l) (D .begin s0) k)) → Real hs (Fresh W D b cs s) os s0 (Some l) (watch (suc k) true v sp) n h) (sym (x .0) ∙ c)
-      (λ m. fresh-bit hs os s0 l v sp cs k r s true n h 3 (x .0) z m g run y e j4 (omega arith) (omega arith) (x .1) (x .2) (cc) (every W (λ x. (3 ≤ rank x) × (rank x ≤ 3)) (λ x. (early-lost true x || late-lost 3 x) ≡ not (eqb (rank x) 3)) (slot-high 3 (omega arith) (omega arith)) cs (w .0))) m
+      (λ m. fresh-bit hs os s0 l v sp cs k r s true n h 3 (x .0) z m g run y e j4 (omega arith) (omega arith) (x .1) (x .2) (cc)
+      (every W (λ x. (3 ≤ rank x) × (rank x ≤ 3)) (λ x. (early-lost true x || late-lost 3 x) ≡ not (eqb (rank x) 3)) (slot-high 3 (omega arith) (omega arith)) cs (w .0))) m
   tick-rises hs os s0 l v sp cs k r s b n h (suc (suc (suc (suc zero)))) e j4 c z m g run y q =
       let x = fresh-listen W D (not (D .pulls s)) cs s h (g .timed) e refl in
       let w = every W (λ x. 4 ≤ rank x) (λ x. rank x ≡ 4) (λ x h. omega (arith, rank-top x)) cs (least-below W 4 cs (omega arith)) in
@@ -500,8 +543,10 @@ module _ (W : Script) (D : Side) (left : W .Cursor → ℕ) (H : Hosts W) (Alike
   tick-stands hs _ _ _ _ _ _ h hh (idle u os s w cs e a t g q y) = subst (λ x. Real hs x os s None w 159999 h) (sym e) (tick-idle hs os s w cs h a t g q y)
   tick-stands hs _ _ _ _ _ _ h hh (claims u os s l v sp cs e m g q y) = subst (λ x. Real hs x os s (Some l) (watch 0 false v sp) 158262 h) (sym e) (tick-claims hs os s l v sp cs h m g q y)
   tick-stands hs _ _ _ _ _ _ h hh (begun u os s l v sp cs k n e b c m g q y) = subst (λ x. Real hs x os s (Some l) (watch 0 false v sp) n h) (sym e) (tick-begun hs os s l v sp cs k n h b c m g q y)
-  tick-stands hs _ _ _ _ _ _ h hh (low u os s0 l v sp cs k r s d f f′ n e b b′ c m g q y) = subst (λ x. Real hs x os s0 (Some l) (watch (suc k) false v sp) n h) (sym e) (tick-low hs os s0 l v sp cs k r s d f f′ n h b b′ c m g q y)
+  tick-stands hs _ _ _ _ _ _ h hh (low u os s0 l v sp cs k r s d f f′ n e b b′ c m g q y) = subst (λ x. Real hs x os s0 (Some l) (watch (suc k) false v sp) n h) (sym e)
+      (tick-low hs os s0 l v sp cs k r s d f f′ n h b b′ c m g q y)
   tick-stands hs _ _ _ _ _ _ h hh (rose u os s0 l v sp cs k r s b n e j c m g q y) =
       subst (λ x. Real hs x os s0 (Some l) (watch (suc k) true v sp) n h) (sym e)
       (tick-rises hs os s0 l v sp cs k r s b n h (least W cs) refl (alive-least W cs (g .living)) j c m g q y (run-shape W D left Alike laws (begins W l) (D .begin s0) k r cs s q (g .living)))
-  tick-stands hs _ _ _ _ _ _ h hh (high u os s0 l v sp cs k r s d c f n e j o z m g q y) = subst (λ x. Real hs x os s0 (Some l) (watch (suc k) true v sp) n h) (sym e) (tick-high hs os s0 l v sp cs k r s d c f n h hh j o z m g q y)
+  tick-stands hs _ _ _ _ _ _ h hh (high u os s0 l v sp cs k r s d c f n e j o z m g q y) = subst (λ x. Real hs x os s0 (Some l) (watch (suc k) true v sp) n h) (sym e)
+      (tick-high hs os s0 l v sp cs k r s d c f n h hh j o z m g q y)

@@ -79,7 +79,8 @@ module _ (W : Script) where
   tells-end (out m ∷ cs) = ap (λ l. None ∷ l) (tells-end cs)
   tells-end (live m p ∷ cs) = ap₂ _∷_ (tell-end p (W .symbol p)) (tells-end cs)
 
-  done-armed : (v : Bool) (m : MasterModel W) (o : W .Outcome) (cs : List (Cell W)) (l : Tasks W) → cell-armeds W cs ≡ l → cell-armeds W (done-if W v m ∷ cs) ≡ disarm-one (task-of W (m .arming)) (cond v (Some o) None) ∷ l
+  done-armed : (v : Bool) (m : MasterModel W) (o : W .Outcome) (cs : List (Cell W)) (l : Tasks W) → cell-armeds W cs ≡ l →
+      cell-armeds W (done-if W v m ∷ cs) ≡ disarm-one (task-of W (m .arming)) (cond v (Some o) None) ∷ l
   done-armed true m o cs l e = ap (λ z. None ∷ z) e
   done-armed false m o cs l e = ap (λ z. task-of W (m .arming) ∷ z) e
 
@@ -91,7 +92,8 @@ module _ (W : Script) where
   pub counts-end : (cs : List (Cell W)) → Holding W cs → count (disarm (cell-armeds W cs) (ending (cursors W cs))) + count (ending (cursors W cs)) ≡ count (cell-armeds W cs)
   counts-end [] h = omega arith
   counts-end (out m ∷ cs) h = count-out (task-of W (m .arming)) (cell-armeds W cs) (disarm (cell-armeds W cs) (ending (cursors W cs))) (ending (cursors W cs)) (counts-end cs h)
-  counts-end (live m p ∷ cs) h = count-one (eqb (rank (W .symbol p)) 1) (task-of W (m .arming)) (W .outcome p) (cell-armeds W cs) (disarm (cell-armeds W cs) (ending (cursors W cs))) (ending (cursors W cs)) (h .0) (counts-end cs (h .1))
+  counts-end (live m p ∷ cs) h = count-one (eqb (rank (W .symbol p)) 1) (task-of W (m .arming)) (W .outcome p) (cell-armeds W cs) (disarm (cell-armeds W cs) (ending (cursors W cs)))
+      (ending (cursors W cs)) (h .0) (counts-end cs (h .1))
 
   -- somebody is told
   pub somebody-told : (cs : List (Cell W)) → least W cs ≡ 1 → 1 ≤ count (ending (cursors W cs))
@@ -161,7 +163,9 @@ module _ (W : Script) (D : Side) (left : W .Cursor → ℕ) (Alike : W .Cursor �
               two true e =
                   let g : rank (W .symbol p) ≡ rank (lead W (cursors W cs)) = sym (eqb-true (rank (lead W (cursors W cs))) (rank (W .symbol p)) e) in
                   let f = stop-names W D left Alike laws l s0 k r (cursors W cs) s run stops i q p a b (rank-inj (W .symbol p) (lead W (cursors W cs)) g) in
-                  ap (λ z. cond z (Some (W .outcome p)) None) (eq-eqb (rank (W .symbol p)) 1 (g ∙ stops)) ∙ ap (λ z. Some (W .outcome z)) (sym f) ∙ sym (ap (λ z. cond z (Some (task-outcome W D left q s0)) None) (wins-if true e))
+                  ap (λ z. cond z (Some (W .outcome p)) None) (eq-eqb (rank (W .symbol p)) 1 (g ∙ stops)) ∙ ap (λ z. Some (W .outcome z)) (sym f)
+                  ∙ sym (ap (λ z. cond z (Some (task-outcome W D left q s0)) None) (wins-if true e))
               two false e =
-                  let g : eqb (rank (W .symbol p)) 1 ≡ false = ne-eqb (rank (W .symbol p)) 1 (λ z. let y : true ≡ false = sym (eq-eqb (rank (lead W (cursors W cs))) (rank (W .symbol p)) (stops ∙ sym z)) ∙ e in let c : _≡_ {A = ℕ} 0 1 = cc in omega arith) in
+                  let g : eqb (rank (W .symbol p)) 1 ≡ false = ne-eqb (rank (W .symbol p)) 1 (λ z. let y : true ≡ false = sym
+                  (eq-eqb (rank (lead W (cursors W cs))) (rank (W .symbol p)) (stops ∙ sym z)) ∙ e in let c : _≡_ {A = ℕ} 0 1 = cc in omega arith) in
                   ap (λ z. cond z (Some (W .outcome p)) None) g ∙ sym (ap (λ z. cond z (Some (task-outcome W D left q s0)) None) (wins-if false e))
