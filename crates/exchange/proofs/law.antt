@@ -13,3 +13,10 @@ pub mod Order
 pub mod Fates
 pub mod Wins
 pub mod Uses
+pub mod Cells
+pub mod Runs
+pub mod Contests
+pub mod Stands
+pub mod Stops
+pub mod Steps
+pub mod Every

@@ -2,8 +2,8 @@
 use mathlib.Core.Bool.{Bool, true, false, cond}
 use mathlib.Core.List.{List, [], _∷_}
 use mathlib.Core.Logic.{_⊎_, inl, inr}
-use mathlib.Core.Path.{_≡_, refl, sym, ap, subst, _∙_}
-use Prim.Native.Nat.{ℕ, zero, suc, _<_, _≤_, _+_}
+use mathlib.Core.Path.{_≡_, refl, sym, ap, _∙_}
+use Prim.Native.Nat.{ℕ, zero, suc, _<_, _≤_}
 use native.Mathlib.Omega.{arith}
 use lib.Dec.{leb, leb·zero, leb·suc-suc, leb·suc-zero}
 use lib.ListN.{length}
@@ -173,6 +173,7 @@ module _ (W : Script) (D : Side) (left : W .Cursor → ℕ) (Alike : W .Cursor �
     | inr b ↦ fate-less W D l s i _ _ _ _ _ p a (b .letters) (b .places)
     | inl e ↦ elim (cases-bool (ends (lead W l))) [
       | inl d ↦ rw (e, d) (fate-end W D l s i p a e)
-      | inr d ↦ rw (e, d) (fate-more W D l s i _ _ _ p a d (fate n (next-live W D l s) (next-side W D l s) (fair-next n l s f d) i (W .next p (heard D (lead W l) s)) (rw (at-keep W (lead W l) (heard D (lead W l) s) l i, a, keeps W D (lead W l) (heard D (lead W l) s) p e))))
+      | inr d ↦ rw (e, d) (fate-more W D l s i _ _ _ p a d (fate n (next-live W D l s) (next-side W D l s) (fair-next n l s f d) i (W .next p (heard D (lead W l) s))
+          (rw (at-keep W (lead W l) (heard D (lead W l) s) l i, a, keeps W D (lead W l) (heard D (lead W l) s) p e))))
     ]
   ]

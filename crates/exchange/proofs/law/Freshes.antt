@@ -73,8 +73,12 @@ module _ (W : Script) (D : Side) where
       let r = step-all W (fresh W false) (settled W 1) (stays W 0) (shown SteadyHigh None false) (λ x. (0 ≤ rank x) × (rank x ≤ 3)) (λ m. refl) (λ m p t q. zero-one W m p t (q .1)) cs t (z .0) in
       let v = verdicts-all W (fresh W false) (late W 0) (shown SteadyHigh None false) (λ x. (0 ≤ rank x) × (rank x ≤ 3)) (λ m. refl) (zero-verdict W) cs (z .0) in
       let u = Fresh W D false cs s in
-      let l : levels W D u ≡ lines true false = cc in
-      (cc, via W D u (Settled W D false (Some false) (stay W 0 cs) s 1) (lines true false) h l (ap (λ ms. bus W D true false true ms s (Some false) 0) r), via-verdicts W D u (notes W (late W 0) cs) (lines true false) l v)
+      let l : levels W D u ≡ lines true false = cc in (
+        cc,
+        via W D u (Settled W D false (Some false) (stay W 0 cs) s 1) (lines true false) h l (ap (λ ms. bus W D true false true ms s (Some false) 0) r),
+        via-verdicts W D u (notes W (late W 0) cs)
+            (lines true false) l v,
+      )
 
   -- a Stop: who shows the end is told, and is armed no more
   pub fresh-end : (cs : List (Cell W)) (s : D .S) (h : ℕ) → Timed W cs → Shape W D cs s → least W cs ≡ 1 →
@@ -105,8 +109,12 @@ module _ (W : Script) (D : Side) where
       let r = step-all W (fresh W true) (settled W 0) (stays W 2) (shown Start None false) (λ x. (2 ≤ rank x) × (rank x ≤ 3)) (λ m. refl) (restart-one W) cs t (z .0) in
       let v = verdicts-all W (fresh W true) (late W 2) (shown Start None false) (λ x. (2 ≤ rank x) × (rank x ≤ 3)) (λ m. refl) (restart-verdict W) cs (z .0) in
       let u = Fresh W D true cs s in
-      let l : levels W D u ≡ lines true false = cc in
-      (cc, via W D u (Settled W D false None (stay W 2 cs) (D .begin s) 0) (lines true false) h l (ap (λ ms. bus W D true false true ms (D .begin s) None 0) r), via-verdicts W D u (notes W (late W 2) cs) (lines true false) l v)
+      let l : levels W D u ≡ lines true false = cc in (
+        cc,
+        via W D u (Settled W D false None (stay W 2 cs) (D .begin s) 0) (lines true false) h l (ap (λ ms. bus W D true false true ms (D .begin s) None 0) r),
+        via-verdicts W D u
+            (notes W (late W 2) cs) (lines true false) l v,
+      )
 
   pub fresh-one : (cs : List (Cell W)) (s : D .S) (h : ℕ) → Timed W cs → Shape W D cs s → least W cs ≡ 3 →
       (carries W D cs s ≡ true) × (tick W D (Fresh W D true cs s) h ≡ Settled W D true (Some true) (stay W 3 cs) s 1) × (tick-verdicts W D (Fresh W D true cs s) ≡ notes W (late W 3) cs)
@@ -147,5 +155,9 @@ module _ (W : Script) (D : Side) where
       let r = step-all W (fresh W false) (settled W 1) (stays W 4) (shown SteadyHigh None false) (λ x. rank x ≡ 4) (λ m. refl) (listen-one W false) cs t z in
       let v = verdicts-all W (fresh W false) (late W 4) (shown SteadyHigh None false) (λ x. rank x ≡ 4) (λ m. refl) (listen-verdict W false) cs z in
       let u = Fresh W D false cs s in
-      let l : levels W D u ≡ lines true false = cc in
-      (cc, via W D u (Settled W D false (Some false) (stay W 4 cs) s 1) (lines true false) h l (ap (λ ms. bus W D true false true ms s (Some false) 0) r), via-verdicts W D u (notes W (late W 4) cs) (lines true false) l v)
+      let l : levels W D u ≡ lines true false = cc in (
+        cc,
+        via W D u (Settled W D false (Some false) (stay W 4 cs) s 1) (lines true false) h l (ap (λ ms. bus W D true false true ms s (Some false) 0) r),
+        via-verdicts W D u (notes W (late W 4) cs)
+            (lines true false) l v,
+      )

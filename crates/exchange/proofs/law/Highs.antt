@@ -4,11 +4,10 @@ use mathlib.Core.Bool.{Bool, true, false, not, _||_}
 use mathlib.Core.List.{List, [], _∷_}
 use Prim.Native.Nat.{ℕ, _+_, _-_, _≤_}
 use native.Mathlib.Omega.{arith}
-use lib.Dec.{eqb}
 use Rattle.std.proofs.shelf.Ways.{tells}
 use Rattle.std.specs.Options.{valueOr}
 use Rattle.std.specs.declared.option.Option.{Option}
-use Rattle.std.specs.declared.option.Option.the-variants.{Some, None}
+use Rattle.std.specs.declared.option.Option.the-variants.{None}
 use Rattle.exchange.specs.declared.wire.Event.the-variants.{Fall, SteadyHigh}
 use Rattle.exchange.specs.Masters.{MasterModel, master-step}
 use Rattle.exchange.specs.Scripts.{Script}
@@ -48,10 +47,12 @@ module _ (W : Script) where
   settled-sda e cs = sda-all W (settled W e) holds (λ m p. refl) cs
 
   opened-step : (e : ℕ) (cs : List (Cell W)) → Timed W cs → masters-step W (looks W (opened W e) cs) (shown SteadyHigh None false) ≡ looks W (opened W (e + 1)) cs
-  opened-step e cs t = step-all W (opened W e) (opened W (e + 1)) live (shown SteadyHigh None false) (λ x. Unit {0}) (λ m. refl) (λ m p t q. opened-one m p e) cs t (all-of W cs) ∙ ap (looks W (opened W (e + 1))) (turns-live W cs)
+  opened-step e cs t = step-all W (opened W e) (opened W (e + 1)) live (shown SteadyHigh None false) (λ x. Unit {0}) (λ m. refl) (λ m p t q. opened-one m p e) cs t (all-of W cs)
+      ∙ ap (looks W (opened W (e + 1))) (turns-live W cs)
 
   settled-step : (e : ℕ) (cs : List (Cell W)) → Timed W cs → masters-step W (looks W (settled W e) cs) (shown SteadyHigh None false) ≡ looks W (settled W (e + 1)) cs
-  settled-step e cs t = step-all W (settled W e) (settled W (e + 1)) live (shown SteadyHigh None false) (λ x. Unit {0}) (λ m. refl) (λ m p t q. settled-one m p e) cs t (all-of W cs) ∙ ap (looks W (settled W (e + 1))) (turns-live W cs)
+  settled-step e cs t = step-all W (settled W e) (settled W (e + 1)) live (shown SteadyHigh None false) (λ x. Unit {0}) (λ m. refl) (λ m p t q. settled-one m p e) cs t (all-of W cs)
+      ∙ ap (looks W (settled W (e + 1))) (turns-live W cs)
 
   opened-falling : (e : ℕ) (cs : List (Cell W)) → Timed W cs → masters-step W (looks W (opened W e) cs) (shown Fall None false) ≡ looks W (lowered W 0) cs
   opened-falling e cs t = step-all W (opened W e) (lowered W 0) live (shown Fall None false) (λ x. Unit {0}) (λ m. refl) (λ m p t q. opened-fall m p e t) cs t (all-of W cs) ∙ ap (looks W (lowered W 0)) (turns-live W cs)
@@ -92,4 +93,5 @@ module _ (W : Script) (D : Side) where
       let a = settled-sda W e cs in
       let l : levels W D (Settled W D d k cs s e) ≡ lines false d = cc in
       let n : asked k h ≡ asked k h - 0 = omega arith in
-      via W D (Settled W D d k cs s e) (Low W D d (advance W (valueOr k true) cs) (taken D k s) (asked k h) 0) (lines false d) h l (ap₂ (λ ms j. bus W D false d true ms (taken D k s) None j) (settled-falling W k e cs t) n)
+      via W D (Settled W D d k cs s e) (Low W D d (advance W (valueOr k true) cs) (taken D k s) (asked k h) 0) (lines false d) h l
+      (ap₂ (λ ms j. bus W D false d true ms (taken D k s) None j) (settled-falling W k e cs t) n)

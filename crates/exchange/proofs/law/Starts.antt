@@ -1,6 +1,6 @@
 -- A free bus: the armed masters claim it, and the turn starts.
 use mathlib.Core.Path.{_≡_, refl, ap, ap₂}
-use mathlib.Core.Bool.{Bool, true, false}
+use mathlib.Core.Bool.{true, false}
 use mathlib.Core.List.{List, [], _∷_}
 use Prim.Native.Nat.{ℕ}
 use native.Mathlib.Omega.{arith}
@@ -11,8 +11,8 @@ use Rattle.exchange.specs.Masters.{ArmingModel, unarmed, armed, MasterModel, c
 use Rattle.exchange.specs.Scripts.{Script}
 use Rattle.exchange.proofs.Sides.{Side}
 use Rattle.exchange.proofs.law.Machine.{any-sda, masters-step, levels, tick}
-use Rattle.exchange.proofs.law.Phases.{lines, shown, Cell, out, live, off, look, looks, idling, claimed, opened, alive, Times, Timed, who, claim, claim-all, bus, Free, Claimed, Opened}
-use Rattle.exchange.proofs.law.Lists.{step-all, turns-live, sda-all, scl-none, via}
+use Rattle.exchange.proofs.law.Phases.{lines, shown, Cell, out, live, off, look, looks, idling, claimed, opened, alive, Times, Timed, claim, claim-all, bus, Free, Claimed, Opened}
+use Rattle.exchange.proofs.law.Lists.{sda-all, scl-none, via}
 
 module _ (W : Script) where
   claim-one : (m : MasterModel W) (a : ArmingModel W) → contends W (off W m) a .0 ≡ look W (claimed W) (claim W m a)

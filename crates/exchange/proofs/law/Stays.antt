@@ -9,7 +9,7 @@ use Rattle.std.proofs.shelf.Ways.{tells}
 use Rattle.exchange.specs.declared.symbol.Symbol.{Symbol}
 use Rattle.exchange.specs.Masters.{MasterModel}
 use Rattle.exchange.specs.Scripts.{Script}
-use Rattle.exchange.proofs.law.Phases.{rank, holds, Cell, out, live, some, alive, Every, Times, Timed, who, least, stay-if, stay, advance, done-if, finished}
+use Rattle.exchange.proofs.law.Phases.{rank, holds, Cell, out, live, some, alive, Times, Timed, who, least, stay-if, stay, advance, done-if, finished}
 use Rattle.exchange.proofs.law.Lists.{rank-top, some-false, every, least-some, least-below}
 
 module _ (W : Script) where
@@ -60,7 +60,8 @@ module _ (W : Script) where
   holds-restart cs e = some-stay holds 2 cs ∙ least-some W (λ x. eqb (rank x) 2 && holds x) 2 (λ x h. grind (arith, tells)) cs e (omega arith)
 
   pub holds-not : (n : ℕ) (cs : List (Cell W)) → 3 ≤ n → least W cs ≡ n → some W holds (stay W n cs) ≡ false
-  holds-not n cs k e = some-stay holds n cs ∙ some-false W (λ x. eqb (rank x) n && holds x) cs (every W (λ x. n ≤ rank x) (λ x. (eqb (rank x) n && holds x) ≡ false) (λ x h. grind (arith, tells)) cs (least-below W n cs (omega arith)))
+  holds-not n cs k e = some-stay holds n cs ∙ some-false W (λ x. eqb (rank x) n && holds x) cs (every W (λ x. n ≤ rank x) (λ x. (eqb (rank x) n && holds x) ≡ false) (λ x h. grind (arith, tells)) cs
+      (least-below W n cs (omega arith)))
 
   pub alive-least : (cs : List (Cell W)) → alive W cs ≡ true → least W cs ≤ 4
   alive-least [] h = let z : _≡_ {A = ℕ} 0 1 = cc in omega arith

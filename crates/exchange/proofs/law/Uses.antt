@@ -19,11 +19,15 @@ use Rattle.exchange.proofs.Sides.{Side}
 use Rattle.exchange.proofs.law.Machine.{Bus, tick, tick-event, tick-verdicts}
 use Rattle.exchange.proofs.law.Race.{at, lexb, First, Quiet, alone, alone-side, alone-end}
 
+-- for each master a task, or none
+abbrev pub Tasks : Script → Type 0
+Tasks W = List (Option (W .Task))
+
 -- the hosts of all masters together
 pub record Hosts (W : Script) : Type 1 where
   pub State : Type 0
   -- the task that each wants, if any
-  pub wants : State → List (Option (W .Task))
+  pub wants : State → Tasks W
   -- after each that is told an outcome has heard it
   pub hear : State → List (Option (W .Outcome)) → State
 
@@ -98,7 +102,7 @@ module _ (W : Script) where
   task-of unarmed = None
   task-of (armed t) = Some t
 
-  abbrev pub armeds : List (MasterModel W) → List (Option (W .Task))
+  abbrev pub armeds : List (MasterModel W) → Tasks W
   armeds [] = []
   armeds (m ∷ ms) = task-of (m .arming) ∷ armeds ms
 
@@ -122,13 +126,13 @@ module _ (W : Script) where
   tellings [] = []
   tellings (k ∷ ks) = telling k ∷ tellings ks
 
-  abbrev pub arm-masters : List (MasterModel W) → List (Option (W .Task)) → ℕ → List (MasterModel W)
+  abbrev pub arm-masters : List (MasterModel W) → Tasks W → ℕ → List (MasterModel W)
   arm-masters [] ws i = []
   arm-masters (m ∷ ms) [] i = m ∷ ms
   arm-masters (m ∷ ms) (w ∷ ws) zero = arm-master W m w .1 ∷ ms
   arm-masters (m ∷ ms) (w ∷ ws) (suc i) = m ∷ arm-masters ms ws i
 
-  abbrev pub arm-answer : List (MasterModel W) → List (Option (W .Task)) → ℕ → Answer
+  abbrev pub arm-answer : List (MasterModel W) → Tasks W → ℕ → Answer
   arm-answer [] ws i = Err 5
   arm-answer (m ∷ ms) [] i = Err 5
   arm-answer (m ∷ ms) (w ∷ ws) zero = arm-master W m w .0
@@ -139,7 +143,7 @@ module _ (W : Script) where
   begin-one None = None
   begin-one (Some t) = Some (W .begin t)
 
-  abbrev pub begins : List (Option (W .Task)) → List (Option (W .Cursor))
+  abbrev pub begins : Tasks W → List (Option (W .Cursor))
   begins [] = []
   begins (o ∷ l) = begin-one o ∷ begins l
 
@@ -159,7 +163,7 @@ module _ (W : Script) (D : Side) (left : W .Cursor → ℕ) where
   pick t (Some u) s = cond (lexb (task-string t s) (task-string u s)) t u
 
   -- the first of those with the least string
-  abbrev pub leader : List (Option (W .Task)) → D .S → Option (W .Task)
+  abbrev pub leader : Tasks W → D .S → Option (W .Task)
   leader [] s = None
   leader (None ∷ l) s = leader l s
   leader (Some t ∷ l) s = Some (pick t (leader l s) s)
@@ -169,7 +173,7 @@ module _ (W : Script) (D : Side) (left : W .Cursor → ℕ) where
   wins t (Some u) s = same (task-string t s) (task-string u s)
 
   -- each contender with the leader's string, with the outcome that it is told, carried alone
-  abbrev pub outcomes : List (Option (W .Task)) → Option (W .Task) → D .S → List (Option (W .Outcome))
+  abbrev pub outcomes : Tasks W → Option (W .Task) → D .S → List (Option (W .Outcome))
   outcomes [] q s = []
   outcomes (None ∷ l) q s = None ∷ outcomes l q s
   outcomes (Some t ∷ l) q s = cond (wins t q s) (Some (task-outcome t s)) None ∷ outcomes l q s
@@ -182,16 +186,16 @@ module _ (W : Script) (D : Side) (H : Hosts W) where
   pub record Book : Type 0 where
     pub hosts : H .State
     -- the task of each master armed
-    pub armed : List (Option (W .Task))
+    pub armed : Tasks W
     -- as the last stop left it
     pub side : D .S
     -- the contenders of the open turn
-    pub turn : Option (List (Option (W .Task)))
+    pub turn : Option (Tasks W)
 
-  abbrev pub book : H .State → List (Option (W .Task)) → D .S → Option (List (Option (W .Task))) → Book
+  abbrev pub book : H .State → Tasks W → D .S → Option (Tasks W) → Book
   book a os s t = record { hosts = a; armed = os; side = s; turn = t }
 
-  abbrev pub opens : List (Option (W .Task)) → Option (List (Option (W .Task))) → Option (List (Option (W .Task)))
+  abbrev pub opens : Tasks W → Option (Tasks W) → Option (Tasks W)
   opens os None = cond (any os) (Some os) None
   opens os (Some l) = Some l
 
@@ -200,7 +204,7 @@ module _ (W : Script) (D : Side) (H : Hosts W) where
 
 module _ (W : Script) (D : Side) (left : W .Cursor → ℕ) (H : Hosts W) where
   -- at a stop each contender's task is carried alone from the side that the last stop left, once it has seen the start
-  abbrev pub stop-tells : List (Option (W .Task)) → D .S → Option (List (Option (W .Task))) → List (Option (W .Outcome))
+  abbrev pub stop-tells : Tasks W → D .S → Option (Tasks W) → List (Option (W .Outcome))
   stop-tells os s None = nobody os
   stop-tells os s (Some l) = outcomes W D left l (leader W D left l (D .begin s)) (D .begin s)
 
@@ -213,7 +217,7 @@ module _ (W : Script) (D : Side) (left : W .Cursor → ℕ) (H : Hosts W) where
   book-tells b SteadyHigh = nobody (b .armed)
   book-tells b SteadyLow = nobody (b .armed)
 
-  abbrev pub feed-stop : H .State → List (Option (W .Task)) → D .S → Option (List (Option (W .Task))) → Book W D H
+  abbrev pub feed-stop : H .State → Tasks W → D .S → Option (Tasks W) → Book W D H
   feed-stop a os s None = book W D H a os s None
   feed-stop a os s (Some l) =
       let q = leader W D left l (D .begin s) in
@@ -270,11 +274,11 @@ module _ (W : Script) where
   marks-too (v ∷ vs) (k ∷ ks) = (v || is-lost W k) ∷ marks-too vs ks
 
   -- a turn opens: nothing is noted yet
-  abbrev pub anew : Watch → List (Option (W .Task)) → Option (List (Option (W .Task))) → Watch
+  abbrev pub anew : Watch → Tasks W → Option (Tasks W) → Watch
   anew w os None = cond (any os) (watch 0 false (falses os) (spell None [])) w
   anew w os (Some l) = w
 
-  abbrev pub turned : Watch → List (Option (W .Task)) → Option (List (Option (W .Task))) → Event → Watch
+  abbrev pub turned : Watch → Tasks W → Option (Tasks W) → Event → Watch
   turned w os t SteadyHigh = anew w os t
   turned w os t Fall = watch (suc (w .falls)) false (w .marked) (fallen (w .spelling .latched) (w .spelling .letters))
   turned w os t (Rise x) = watch (w .falls) true (w .marked) (spell (Some x) (w .spelling .letters))
@@ -285,7 +289,7 @@ module _ (W : Script) where
   abbrev pub noted : Watch → List (VerdictModel W) → Watch
   noted w ks = watch (w .falls) (w .risen) (marks-too (w .marked) ks) (w .spelling)
 
-  abbrev pub sees : Watch → List (Option (W .Task)) → Option (List (Option (W .Task))) → Event → List (VerdictModel W) → Watch
+  abbrev pub sees : Watch → Tasks W → Option (Tasks W) → Event → List (VerdictModel W) → Watch
   sees w os t e ks = noted (turned w os t e) ks
 
   -- the making: fresh masters with these clocks
@@ -297,7 +301,7 @@ module _ (W : Script) (D : Side) where
   abbrev pub tick-tells : Bus W D → List (Option (W .Outcome))
   tick-tells u = tellings W (tick-verdicts W D u)
 
-  abbrev pub arm-bus : Bus W D → List (Option (W .Task)) → ℕ → Bus W D
+  abbrev pub arm-bus : Bus W D → Tasks W → ℕ → Bus W D
   arm-bus u ws i = record { wire = u .wire; masters = arm-masters W (u .masters) ws i; side = u .side; hold = u .hold }
 
 module _ (W : Script) (D : Side) (H : Hosts W) where
@@ -371,8 +375,8 @@ module _ (W : Script) (D : Side) (H : Hosts W) where
 
 module _ (W : Script) (D : Side) (left : W .Cursor → ℕ) where
   -- what a mark of a loss says: t is the open turn, s the side at rest, v who was marked before, and w is noted with this tick's event
-  pub record Loses (t : Option (List (Option (W .Task)))) (s : D .S) (v : List Bool) (w : Watch) (i : ℕ) : Type 0 where
-    pub turn : List (Option (W .Task))
+  pub record Loses (t : Option (Tasks W)) (s : D .S) (v : List Bool) (w : Watch) (i : ℕ) : Type 0 where
+    pub turn : Tasks W
     pub now : t ≡ Some turn
     pub task : W .Task
     pub contends : at turn i ≡ Some task
@@ -385,7 +389,7 @@ module _ (W : Script) (D : Side) (left : W .Cursor → ℕ) where
     pub first : First (task-string W D left least (D .begin s)) (task-string W D left task (D .begin s)) letter
 
   -- what a stop says of a contender i with the task p: s is the side at rest, v who was marked, ts who is told
-  pub record Stopped (l : List (Option (W .Task))) (s : D .S) (v : List Bool) (ts : List (Option (W .Outcome))) (i : ℕ) (p : W .Task) : Type 0 where
+  pub record Stopped (l : Tasks W) (s : D .S) (v : List Bool) (ts : List (Option (W .Outcome))) (i : ℕ) (p : W .Task) : Type 0 where
     -- told are those never marked
     pub unmarked : isSome (at ts i) ≡ not (getD v i false)
     -- and those whose string is below each contender's
@@ -393,7 +397,7 @@ module _ (W : Script) (D : Side) (left : W .Cursor → ℕ) where
     pub wins : ((j : ℕ) (q : W .Task) → at l j ≡ Some q → lexb (task-string W D left p (D .begin s)) (task-string W D left q (D .begin s)) ≡ true) → isSome (at ts i) ≡ true
 
   -- what was spelled, the stop included, is the least string
-  pub record Spelled (l : List (Option (W .Task))) (s : D .S) (letters : List ℕ) : Type 0 where
+  pub record Spelled (l : Tasks W) (s : D .S) (letters : List ℕ) : Type 0 where
     pub least : W .Task
     pub leads : leader W D left l (D .begin s) ≡ Some least
     pub whole : letters ≡ task-string W D left least (D .begin s)
@@ -403,9 +407,9 @@ module _ (W : Script) (D : Side) (left : W .Cursor → ℕ) (H : Hosts W) where
     pub tells : tick-tells W D (x .bus) ≡ book-tells W D left H (x .book) (tick-event W D (x .bus))
     pub loses : (i : ℕ) → getD (tick-verdicts W D (x .bus)) i quiet ≡ lost →
         Loses W D left (x .book .turn) (x .book .side) (x .watch .marked) (turned W (x .watch) (x .book .armed) (x .book .turn) (tick-event W D (x .bus))) i
-    pub stops : tick-event W D (x .bus) ≡ Stop → (l : List (Option (W .Task))) → x .book .turn ≡ Some l → (i : ℕ) (p : W .Task) → at l i ≡ Some p →
+    pub stops : tick-event W D (x .bus) ≡ Stop → (l : Tasks W) → x .book .turn ≡ Some l → (i : ℕ) (p : W .Task) → at l i ≡ Some p →
         Stopped W D left l (x .book .side) (x .watch .marked) (tick-tells W D (x .bus)) i p
-    pub spelled : tick-event W D (x .bus) ≡ Stop → (l : List (Option (W .Task))) → x .book .turn ≡ Some l →
+    pub spelled : tick-event W D (x .bus) ≡ Stop → (l : Tasks W) → x .book .turn ≡ Some l →
         Spelled W D left l (x .book .side) (turned W (x .watch) (x .book .armed) (x .book .turn) (tick-event W D (x .bus)) .spelling .letters)
 
   pub record Law (x : Use W D H) : Type 0 where
