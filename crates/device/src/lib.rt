@@ -4,6 +4,8 @@ mod device;
 mod event_queue;
 mod register_file;
 mod slow;
+#[cfg(test)]
+mod tests;
 
 pub use busy::Busy;
 pub use busy::BusyDevice;

@@ -2,3 +2,4 @@ pub mod Digits
 pub mod Decimals
 pub mod Listings
 pub mod Lines
+pub mod Outcomes

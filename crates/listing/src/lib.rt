@@ -3,6 +3,7 @@ mod digit;
 mod listing;
 mod marks;
 mod numeral;
+mod outcome;
 
 pub use digit::hex;
 pub use listing::Listing;
@@ -11,3 +12,5 @@ pub use marks::ByteMark;
 pub use marks::Marks;
 pub use marks::WireMark;
 pub use numeral::decimal;
+pub use outcome::bytes_text;
+pub use outcome::outcome_text;

@@ -1,0 +1,2 @@
+pub mod Counters
+pub mod Onces
