@@ -4,3 +4,4 @@ pub mod Seen
 pub mod Hosting
 pub mod Carries
 pub mod Booked
+pub mod Watched

@@ -43,15 +43,15 @@ abbrev pub bit-spelled : Option Bool → List Letter
 bit-spelled None = []
 bit-spelled (Some b) = bit-letter b ∷ []
 
--- the first start of a turn spells nothing
-abbrev pub start-spelled : ℕ → List Letter
-start-spelled zero = []
-start-spelled (suc n) = restart ∷ []
+-- a start before the first fall is the turn's own and spells nothing; any later one is a repeated start
+abbrev pub starts-again : ℕ → Watch → Watch
+starts-again zero w = w
+starts-again (suc n) w = watching (w .falls) (w .risen) (w .marked) None (w .spelled ++ (restart ∷ []))
 
 abbrev pub sees : Watch → Event → Watch
 sees w Fall = watching (suc (w .falls)) false (w .marked) (latched (w .latch) Fall) (w .spelled ++ bit-spelled (counted (w .latch) Fall))
 sees w (Rise b) = watching (w .falls) true (w .marked) (latched (w .latch) (Rise b)) (w .spelled)
-sees w Start = watching (w .falls) (w .risen) (w .marked) (latched (w .latch) Start) (w .spelled ++ start-spelled (w .falls))
+sees w Start = starts-again (w .falls) w
 sees w Stop = watching (w .falls) (w .risen) (w .marked) (latched (w .latch) Stop) (w .spelled ++ (stop ∷ []))
 sees w SteadyHigh = w
 sees w SteadyLow = w
