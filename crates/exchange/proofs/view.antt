@@ -5,3 +5,4 @@ pub mod Hosting
 pub mod Carries
 pub mod Booked
 pub mod Watched
+pub mod Used
