@@ -6,3 +6,4 @@ pub mod Carries
 pub mod Booked
 pub mod Watched
 pub mod Used
+pub mod Reached
