@@ -7,3 +7,5 @@ pub mod Booked
 pub mod Watched
 pub mod Used
 pub mod Reached
+pub mod Ranks
+pub mod Counted
