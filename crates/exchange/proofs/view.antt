@@ -9,3 +9,4 @@ pub mod Used
 pub mod Reached
 pub mod Ranks
 pub mod Counted
+pub mod Lawful
