@@ -1,5 +1,5 @@
 -- A run counted tick by tick.
-use mathlib.Core.Bool.{Bool, true, false, cond}
+use mathlib.Core.Bool.{true, false, cond}
 use mathlib.Core.List.{List, [], _∷_}
 use mathlib.Core.Logic.{_⊎_, inl, inr}
 use mathlib.Core.Path.{_≡_, refl, sym, ap, subst, _∙_}
@@ -59,7 +59,8 @@ pub tolds-are-all : (hs : List HostBehaviour) (s : Signal) (p : Bank Served hs) 
 tolds-are-all [] s p k h = none-told k
 tolds-are-all (b ∷ hs) s p zero h = absurd (omega arith)
 tolds-are-all (b ∷ hs) s p (suc k) h =
-    one-more (master-step transfers (p .0 .master) s .1) _ _ (tolds-are-all hs s (p .1) k (omega arith)) ∙ ap (λ n. n + how-many (listed (λ h. served-told h s) hs (p .1))) (add-zero _)
+    one-more (master-step transfers (p .0 .master) s .1) _ _ (tolds-are-all hs s (p .1) k (omega arith))
+    ∙ ap (λ n. n + how-many (listed (λ h. served-told h s) hs (p .1))) (add-zero _)
 
 -- no device asks to hold
 no-holds : (ds : List Behaviour) → Holds ds
@@ -86,7 +87,8 @@ module _ (hs : List HostBehaviour) (ds : List Behaviour) where
   unfolding then
   then-at a t h = rw (le-ltb t t (omega arith))
 
-  ticked-on : (u : BusModel hs ds) (r : Running hs ds) (h : Holds ds) → is-at-rest hs ds (r .bus) ≡ false → Reached u r → Reached u (ticked hs ds r h)
+  ticked-on : (u : BusModel hs ds) (r : Running hs ds) (h : Holds ds) → is-at-rest hs ds (r .bus) ≡ false →
+      Reached u r → Reached u (ticked hs ds r h)
   ticked-on u r h up so = (
     then (so .0) (r .ticks) h,
     λ b e m.

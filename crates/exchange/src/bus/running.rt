@@ -3,7 +3,7 @@ ghost use mathlib.Core.Path.{_≡_};
 ghost use Prim.Native.Nat.{ℕ, _≤_};
 ghost use lib.ListN.{length};
 ghost use Rattle.transfer.specs.Refusals.{answer};
-ghost use Rattle.exchange.specs.Buses.{BusModel, Holds, tick-at, told-at};
+ghost use Rattle.exchange.specs.Buses.{Holds, tick-at, told-at};
 ghost use Rattle.exchange.specs.Parts.{bus-model, run-model};
 ghost use Rattle.exchange.specs.Runs.{how-many, tolds, load, run-at};
 use super::Bus;

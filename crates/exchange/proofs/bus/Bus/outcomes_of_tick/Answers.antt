@@ -14,6 +14,7 @@ returns g c =
     let tick-is = c .tick-tick .ensures .1 in
     record {
       few = c .told .ensures .few;
-      all = c .told .ensures .all ∙ ap (λ x. tolds (x .0 .marks)) tick-is ∙ tolds-are-all hs (signal (u .wire) (levels-at hs ds u)) (u .masters) 8 (c .pre .few-masters);
+      all = c .told .ensures .all ∙ ap (λ x. tolds (x .0 .marks)) tick-is
+          ∙ tolds-are-all hs (signal (u .wire) (levels-at hs ds u)) (u .masters) 8 (c .pre .few-masters);
       after = (c .tick-tick .ensures .0, ap (λ x. x .1) tick-is);
     }

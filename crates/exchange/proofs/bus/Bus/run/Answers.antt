@@ -37,5 +37,8 @@ loop-ticks-again g c = (
 pub returns : need.returns
 returns g c =
     run-is _ _ _ _ (c .args .n) (c .load .result) (c .if-n-gt-MOST-TICKS .left) (c .loop-ticks .inv .0) (c .load .ensures)
-    (elim (c .then-ticks-n .came) [ then-ticks-n·by·then-ticks-n w ↦ inl (w .if-ticks-n .taken) | then-ticks-n·by·else-ticks-n·then-at-rest w ↦ inr (w .if-at-rest .ensures tt) ])
+    (elim (c .then-ticks-n .came) [
+      | then-ticks-n·by·then-ticks-n w ↦ inl (w .if-ticks-n .taken)
+      | then-ticks-n·by·else-ticks-n·then-at-rest w ↦ inr (w .if-at-rest .ensures tt)
+    ])
     (c .loop-ticks .inv .3)
