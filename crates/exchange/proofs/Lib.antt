@@ -6,3 +6,4 @@ pub mod alone
 pub mod law
 pub mod view
 pub mod Exemplified
+pub mod Counting

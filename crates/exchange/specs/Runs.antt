@@ -10,11 +10,20 @@ use Rattle.std.specs.declared.result.Result.the-variants.{Ok, Err}
 use Rattle.device.specs.Behaviours.{Behaviour}
 use Rattle.host.specs.Behaviours.{HostBehaviour}
 use Rattle.transfer.specs.Outcomes.{OutcomeModel}
+use Rattle.exchange.specs.declared.mark.Mark.{Mark}
+use Rattle.exchange.specs.declared.mark.Mark.the-variants.{Quiet, Told, Lost}
 use Rattle.exchange.specs.Buses.{BusModel, Holds, tick-at, told-at, is-at-rest}
 
 abbrev pub how-many : {A : Type 0} → List (Option A) → ℕ
 how-many [] = 0
 how-many (o ∷ os) = cond (isSome o) 1 0 + how-many os
+
+-- how many were told, by the marks of a tick
+abbrev pub tolds : List Mark → ℕ
+tolds [] = 0
+tolds (Quiet ∷ ms) = tolds ms
+tolds (Told ∷ ms) = suc (tolds ms)
+tolds (Lost ∷ ms) = tolds ms
 
 -- busy ticks in thousandths of all, a half rounded up; 0 for no ticks
 abbrev pub load : ℕ → ℕ → ℕ

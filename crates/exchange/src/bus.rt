@@ -5,6 +5,7 @@ use crate::wire::Levels;
 use crate::wire::Wire;
 
 mod calls;
+mod running;
 
 // It cannot be copied, and closing it moves it: a closed bus is not ticked.
 pub struct Bus<M, P> {
@@ -20,4 +21,12 @@ pub struct Tick {
     pub levels: Levels,
     pub event: Event,
     pub marks: [Mark; 8],
+}
+
+// What a run answers: the ticks made, the outcomes told in them, and the busy ticks in thousandths of these ticks.
+#[derive(Clone, Copy)]
+pub struct Run {
+    pub ticks: u32,
+    pub outcomes: u32,
+    pub load: u32,
 }

@@ -18,6 +18,7 @@ pub use bank::PairMasters;
 pub use bank::PairPorts;
 pub use bank::Ports;
 pub use bus::Bus;
+pub use bus::Run;
 pub use bus::Tick;
 pub use mark::Mark;
 pub use master::Master;
