@@ -10,3 +10,4 @@ pub mod Reached
 pub mod Ranks
 pub mod Counted
 pub mod Lawful
+pub mod Beginning

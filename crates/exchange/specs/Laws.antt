@@ -80,6 +80,11 @@ pub record First-difference (t u : List Letter) (c : ℕ) : Type 0 where
   pub same : (k : ℕ) → k < c → getD t k low ≡ getD u k low
   pub less : rank (getD t c low) < rank (getD u c low)
 
+-- every clock count is 1 to 255
+abbrev pub Clocked : (hs : List HostBehaviour) → Bank Served hs → Type 0
+Clocked [] ms = Unit {0}
+Clocked (h ∷ hs) ms = ((1 ≤ ms .0 .master .low) × (ms .0 .master .low ≤ 255) × (1 ≤ ms .0 .master .high) × (ms .0 .master .high ≤ 255)) × Clocked hs (ms .1)
+
 module _ (hs : List HostBehaviour) (ds : List Behaviour) where
   -- a call: an arm, a tick with the answers to hold in it, or a run with the answers in each of its ticks
   pub data Call : Type 0 where

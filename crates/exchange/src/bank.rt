@@ -6,6 +6,7 @@ ghost use Rattle.host.specs.Behaviours.{HostBehaviour};
 ghost use Rattle.transfer.specs.Refusals.{answer};
 ghost use Rattle.exchange.specs.Banks.{Bank, each, listed};
 ghost use Rattle.exchange.specs.Buses.{Served, served-pulls, served-armed, served-new, served-step, served-mark, all-pulls, any-of, arm-nth, over, port-new, Holds, ports-step};
+ghost use Rattle.exchange.specs.Laws.{Clocked};
 ghost use Rattle.exchange.specs.Parts.{served};
 ghost use Rattle.exchange.specs.Ports.{PortModel, port-model, port-pulls};
 use crate::mark::Mark;
@@ -25,6 +26,9 @@ pub trait Masters {
     ghost hosts: { List HostBehaviour };
 
     ghost stand: { Self → Bank Served hosts };
+
+    // a clock pair has counts from 1 to 255
+    law clocked: { (x : Self) → Clocked hosts (stand x) };
 
     fn pulls(&self) -> Pulls
         ensures { λ r. ⌜ r ≡ all-pulls (listed served-pulls hosts (stand (now (self .entry)))) ⌝ };
