@@ -1,5 +1,4 @@
 -- A script played alone, bit by bit, against the ports is the transfer carried alone, byte by byte.
-pub mod Legal
 pub mod Sealed
 pub mod Octets
 pub mod Banks

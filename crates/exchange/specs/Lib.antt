@@ -11,6 +11,8 @@ pub mod Buses
 pub mod Parts
 pub mod Strings
 pub mod Carrying
+pub mod Legal
+pub mod Facts
 pub mod Books
 pub mod Examples
 pub mod Runs

@@ -18,7 +18,7 @@ use Rattle.exchange.specs.Cursors.{Play, done, again, sends, CursorModel, open
 use Rattle.exchange.specs.Octets.{digit}
 use Rattle.exchange.specs.Symbols.{bit-symbol}
 use Rattle.exchange.proofs.Sides.{ends}
-use Rattle.exchange.proofs.alone.Legal.{Legal-body, Legal-leg, Legal-second, Legal}
+use Rattle.exchange.specs.Legal.{Legal-body, Legal-leg, Legal-second, Legal}
 use Rattle.exchange.proofs.alone.Moves.{leaves, goes-on, moves, next-is}
 use Rattle.exchange.proofs.alone.SlotsLeft.{slots-left, some-left, fewer}
 

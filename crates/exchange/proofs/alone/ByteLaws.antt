@@ -17,10 +17,10 @@ use Rattle.exchange.specs.Banks.{Bank, each}
 use Rattle.exchange.specs.Carrying.{Placed, Taking, selected, put-to, taken-from, gives, byte-levels, Passed, ends, after-byte, somebody, written, read, passed}
 use Rattle.exchange.specs.Octets.{digit}
 use Rattle.exchange.specs.Ports.{answers-to}
+use Rattle.exchange.specs.Facts.{Exists, Every, having, given, byte-given, write-leg, read-leg, Accepts, Only, Byte-laws}
 use Rattle.exchange.proofs.alone.Banks.{any}
 use Rattle.exchange.proofs.alone.Octets.{ones, digit-and}
 use Rattle.exchange.proofs.alone.Phases.{device-in-leg, called-for, put-to-all}
-use Rattle.exchange.proofs.alone.Statements.{Exists, Every, having, given, byte-given, write-leg, read-leg, Accepts, Only, Byte-laws}
 
 and-true : (x y : Bool) → ((x && y) ≡ true) ↔ ((x ≡ true) × (y ≡ true))
 and-true true y = ((λ e. (refl, e)), λ h. h .1)

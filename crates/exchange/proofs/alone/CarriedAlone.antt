@@ -15,7 +15,7 @@ use Rattle.exchange.specs.Cursors.{done, again, sends, Notes, CursorModel, at,
 use Rattle.exchange.specs.Ports.{PortModel}
 use Rattle.exchange.specs.Scripts.{transfers}
 use Rattle.exchange.specs.Strings.{Letter, stop, restart, bit-letter}
-use Rattle.exchange.proofs.alone.Legal.{Legal-leg, Legal-second}
+use Rattle.exchange.specs.Legal.{Legal-leg, Legal-second}
 use Rattle.exchange.proofs.alone.Legs.{notes, closing, leg-plays}
 use Rattle.exchange.proofs.alone.Phases.{addressing-at, Rests, opened-is}
 use Rattle.exchange.proofs.alone.PortsSide.{ports-side, idle-ports}

@@ -15,7 +15,7 @@ use Rattle.exchange.specs.Scripts.{transfers}
 use Rattle.exchange.proofs.Sides.{last, Quiet-for}
 use Rattle.exchange.proofs.alone.Banks.{none-each}
 use Rattle.exchange.proofs.alone.CarriedAlone.{carried-alone}
-use Rattle.exchange.proofs.alone.Legal.{Legal}
+use Rattle.exchange.specs.Legal.{Legal}
 use Rattle.exchange.proofs.alone.PortsSide.{pulling, ports-side, idle-port, idle-ports}
 use Rattle.exchange.proofs.alone.Sealed.{legal-transfer}
 use Rattle.exchange.proofs.alone.SlotsLeft.{slots-left, at-most-308}

@@ -25,7 +25,7 @@ use Rattle.exchange.specs.Octets.{digit, shifted}
 use Rattle.exchange.specs.Ports.{PortModel, direction-of}
 use Rattle.exchange.specs.Scripts.{transfers}
 use Rattle.exchange.specs.Symbols.{bit-symbol}
-use Rattle.exchange.proofs.alone.Legal.{Legal-body, Legal-leg}
+use Rattle.exchange.specs.Legal.{Legal-body, Legal-leg}
 use Rattle.exchange.proofs.alone.Phases.{addressing-at, writing-at, acknowledging-at, reading-at, out-at, joined-byte, reading-pulls, called-for, put-to-all, address-more, address-full, write-more, write-full, read-more, write-on, read-on, read-none, one-more, no-more, address-quiet, write-quiet, acknowledge-pulls, eighth-quiet, Rests, rests-writing, rests-out}
 use Rattle.exchange.proofs.alone.PortsSide.{ports-side}
 use Rattle.exchange.proofs.alone.Runs.{Carries, low-bits, byte}

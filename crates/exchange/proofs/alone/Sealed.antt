@@ -13,7 +13,7 @@ use Rattle.transfer.specs.declared.leg.Leg.{Leg}
 use Rattle.transfer.specs.Drafts.{transfer-model}
 use Rattle.transfer.specs.Legs.{body-model, leg-model}
 use Rattle.transfer.specs.Octets.{Octets}
-use Rattle.exchange.proofs.alone.Legal.{Legal-body, Legal-leg, Legal-second, Legal}
+use Rattle.exchange.specs.Legal.{Legal-body, Legal-leg, Legal-second, Legal}
 
 octets-take : (n : ℕ) (xs : List ℕ) → Octets xs → Octets (take n xs)
 octets-take zero xs h k = omega arith

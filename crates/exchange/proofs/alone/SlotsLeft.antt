@@ -10,7 +10,7 @@ use Rattle.transfer.specs.Drafts.{TransferModel}
 use Rattle.transfer.specs.Legs.{BodyModel, writes, reads, LegModel, body-size}
 use Rattle.exchange.specs.Cursors.{Play, done, again, sends, CursorModel, size, symbol-of, cursor-next, opening-of}
 use Rattle.exchange.proofs.Sides.{ends}
-use Rattle.exchange.proofs.alone.Legal.{Legal-body, Legal-second, Legal}
+use Rattle.exchange.specs.Legal.{Legal-body, Legal-second, Legal}
 use Rattle.exchange.proofs.alone.Moves.{leaves, moves, next-is}
 
 -- a repeated start, a leg and the stop

@@ -24,10 +24,11 @@ use Rattle.exchange.specs.Strings.{Letter, stop, restart, one, rank, bit-lette
 use Rattle.exchange.proofs.Sides.{Side, ends, heard, after, string}
 use Rattle.exchange.proofs.alone.Alike.{cursor-laws}
 use Rattle.exchange.proofs.alone.CarriedAlone.{carried-alone}
-use Rattle.exchange.proofs.alone.Legal.{Legal}
+use Rattle.exchange.specs.Legal.{Legal}
+use Rattle.exchange.specs.Facts.{Without-stop, One-stop, Parting, Is-bit, Zero-against-one, condition, Same-conditions, String-laws}
 use Rattle.exchange.proofs.alone.PortsSide.{ports-side}
 use Rattle.exchange.proofs.alone.SlotsLeft.{slots-left, at-most-308}
-use Rattle.exchange.proofs.alone.Statements.{opened-ports, Without-stop, One-stop, Parting, Is-bit, Zero-against-one, condition, Same-conditions, String-laws}
+use Rattle.exchange.proofs.alone.Statements.{opened-ports}
 use Rattle.exchange.proofs.alone.Told.{Twins, same-end}
 
 -- letters are told apart by their rank

@@ -18,7 +18,7 @@ use Rattle.exchange.specs.Ports.{PortModel}
 use Rattle.exchange.specs.Scripts.{transfers}
 use Rattle.exchange.proofs.alone.Alike.{Alike}
 use Rattle.exchange.proofs.alone.Idle.{Idle}
-use Rattle.exchange.proofs.alone.Legal.{Legal}
+use Rattle.exchange.specs.Legal.{Legal}
 use Rattle.exchange.proofs.alone.PortsSide.{unheld, ports-side, idle-ports}
 use Rattle.exchange.proofs.alone.SlotsLeft.{slots-left}
 use Rattle.exchange.proofs.law.Every.{every-use}
@@ -89,6 +89,6 @@ module _ (hs : List HostBehaviour) (ds : List Behaviour) where
       let x = beginning hs ds ms ps in
       let w = reached hs ds x cs (begins-good ms ps) in
       let all = every-use transfers (ports-side ds) slots-left (all-hosts hs) Alike Legal (Idle ds) laws (plays hs ds) (listed clock-of hs ms) (hosts-of hs ms) (rest ps)
-          (clocks-fit hs ms c) (record { devices = each (placed-at hs ds) ds ps; ports-are = refl }) in
+      (clocks-fit hs ms c) (record { devices = each (placed-at hs ds) ds ps; ports-are = refl }) in
       let as-law : used-as hs ds (used hs ds x cs) ≡ law-uses hs ds (law-made transfers (ports-side ds) (all-hosts hs) (listed clock-of hs ms) (hosts-of hs ms) (rest ps)) (w .steps) = w .as-law ∙ ap (λ y. law-uses hs ds y (w .steps)) (begins-as ms ps) in
       lawful hs ds (used hs ds x cs) (w .good) (subst (LawLaw transfers (ports-side ds) slots-left (all-hosts hs)) (sym as-law) (all (w .steps) (w .held)))

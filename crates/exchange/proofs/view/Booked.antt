@@ -21,7 +21,7 @@ use Rattle.exchange.specs.Books.{Standing, unarmed, armed, is-armed, Entry, st
 use Rattle.exchange.specs.Carrying.{Placed, Carried, carried}
 use Rattle.exchange.specs.Ports.{PortModel}
 use Rattle.exchange.specs.Scripts.{transfers}
-use Rattle.exchange.proofs.alone.Legal.{Legal}
+use Rattle.exchange.specs.Legal.{Legal}
 use Rattle.exchange.proofs.alone.PortsSide.{ports-side, idle-ports}
 use Rattle.exchange.proofs.alone.Sealed.{legal-transfer}
 use Rattle.exchange.proofs.alone.SlotsLeft.{slots-left}
@@ -117,10 +117,10 @@ arm-kept (h ∷ hs) es (suc n) k = (k .0, arm-kept hs (es .1) n (k .1))
 pub any-armed : (hs : List HostBehaviour) (es : Bank Entry hs) → Kept hs es → any (tasks hs es) ≡ any-true (listed standing-of hs es)
 any-armed [] es k = refl
 any-armed (h ∷ hs) es k = ap₂ _||_ (some-if h (es .0 .standing) (h .want (es .0 .meaning)) (k .0)) (any-armed hs (es .1) (k .1)) where
-    some-if : (g : HostBehaviour) (s : Standing) (w : Option Transfer) → Wants-if s w → isSome (wanted-if g (is-armed s) w) ≡ is-armed s
-    some-if g unarmed w k = refl
-    some-if g armed None k = k
-    some-if g armed (Some t) k = refl
+  some-if : (g : HostBehaviour) (s : Standing) (w : Option Transfer) → Wants-if s w → isSome (wanted-if g (is-armed s) w) ≡ is-armed s
+  some-if g unarmed w k = refl
+  some-if g armed None k = k
+  some-if g armed (Some t) k = refl
 
 enter-tasks : (hs : List HostBehaviour) (es : Bank Entry hs) → tasks hs (each enters hs es) ≡ tasks hs es
 enter-tasks [] es = refl

@@ -19,7 +19,7 @@ use Rattle.exchange.specs.Ports.{PortModel}
 use Rattle.exchange.specs.Scripts.{transfers}
 use Rattle.exchange.specs.Strings.{Letter, rank, same-string, first-or-same}
 use Rattle.exchange.proofs.alone.CarriedAlone.{carried-alone}
-use Rattle.exchange.proofs.alone.Legal.{Legal}
+use Rattle.exchange.specs.Legal.{Legal}
 use Rattle.exchange.proofs.alone.PortsSide.{ports-side, idle-ports}
 use Rattle.exchange.proofs.alone.SlotsLeft.{slots-left}
 use Rattle.exchange.proofs.alone.Statements.{Agrees, opened-ports}
@@ -127,5 +127,5 @@ module _ (ds : List Behaviour) (d : Bank Placed ds) where
   devices-are l q k e =
       ap (λ c. idle-ports ds (devices-after ds c d)) (least-is l k ∙ ap (mapped carry) e)
       ∙ (after-one q (legal e) ∙ ap (λ o. leader-side transfers (ports-side ds) slots-left o side) (sym e)) where
-      legal : lead l ≡ Some q → Legal q
-      legal e = subst Legal-if e (lead-legal l k)
+        legal : lead l ≡ Some q → Legal q
+        legal e = subst Legal-if e (lead-legal l k)

@@ -106,4 +106,4 @@ module _ (hs : List HostBehaviour) (ds : List Behaviour) where
       let p = more .outcomes-are in
       let q = more .ticks-are in
       either-counts (is-at-rest hs ds (x .bus)) x (run-on hs ds n (suc t) a y) t o (suc (ticks-of-run hs ds n (suc t) a y)) (runner x t o z) (goes-on hs ds n a (runner y (suc t) (o + m) b))
-          (record { outcomes-are = refl; ticks-are = omega arith }) (record { outcomes-are = omega arith; ticks-are = omega arith })
+      (record { outcomes-are = refl; ticks-are = omega arith }) (record { outcomes-are = omega arith; ticks-are = omega arith })

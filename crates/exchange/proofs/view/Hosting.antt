@@ -17,7 +17,7 @@ use Rattle.exchange.specs.Banks.{Bank, listed}
 use Rattle.exchange.specs.Scripts.{transfers}
 use Rattle.exchange.proofs.alone.Alike.{Alike, Cursor-laws, cursor-laws}
 use Rattle.exchange.proofs.alone.Idle.{Idle, idle-pulls-nothing, quiet-from-idle, idle-at-last}
-use Rattle.exchange.proofs.alone.Legal.{Legal}
+use Rattle.exchange.specs.Legal.{Legal}
 use Rattle.exchange.proofs.alone.PortsSide.{ports-side}
 use Rattle.exchange.proofs.alone.Sealed.{legal-transfer}
 use Rattle.exchange.proofs.alone.SlotsLeft.{slots-left, at-most-308}

@@ -27,7 +27,7 @@ use Rattle.exchange.specs.Runs.{RunModel, goes-on, setting-out, reported, run-
 use Rattle.exchange.specs.Scripts.{transfers}
 use Rattle.exchange.specs.Strings.{rank, first-or-same}
 use Rattle.exchange.specs.Wires.{signal}
-use Rattle.exchange.proofs.alone.Legal.{Legal}
+use Rattle.exchange.specs.Legal.{Legal}
 use Rattle.exchange.proofs.alone.PortsSide.{ports-side}
 use Rattle.exchange.proofs.alone.SlotsLeft.{slots-left}
 use Rattle.exchange.proofs.alone.StringLaws.{same-ranks}
@@ -117,17 +117,17 @@ module _ (hs : List HostBehaviour) (ds : List Behaviour) where
         let here : at l i ≡ Some (z .task) = ap (λ m. at m i) (o .1) ∙ z .contends in
         let best : lead ds (b .devices) l ≡ Some (z .least) = ap (lead ds (b .devices)) (o .1) ∙ z .leads in
         record {
-            turn = o .0;
-            own = carry ds (b .devices) (z .task);
-            contends = ap (λ cs. getD cs i None) (contests-of hs ds b) ∙ carried-at ds (b .devices) l i (z .task) here;
-            before = z .before;
-            best = carry ds (b .devices) (z .least);
-            leads = leads (z .least) best;
-            letter = z .letter;
-            shown = ap (λ w. w .falls) noted ∙ z .falls;
-            risen = ap (λ w. w .risen) noted ∙ z .risen;
-            first = first-difference (carry ds (b .devices) (z .least) .letters) (carry ds (b .devices) (z .task) .letters) (text ds (b .devices) (z .least)) (text ds (b .devices) (z .task)) (z .letter)
-                (text-is ds (b .devices) (z .least) (lead-fits (z .least) best)) (text-is ds (b .devices) (z .task) (legal-at l i (z .task) legal here)) (z .first);
+          turn = o .0;
+          own = carry ds (b .devices) (z .task);
+          contends = ap (λ cs. getD cs i None) (contests-of hs ds b) ∙ carried-at ds (b .devices) l i (z .task) here;
+          before = z .before;
+          best = carry ds (b .devices) (z .least);
+          leads = leads (z .least) best;
+          letter = z .letter;
+          shown = ap (λ w. w .falls) noted ∙ z .falls;
+          risen = ap (λ w. w .risen) noted ∙ z .risen;
+          first = first-difference (carry ds (b .devices) (z .least) .letters) (carry ds (b .devices) (z .task) .letters) (text ds (b .devices) (z .least)) (text ds (b .devices) (z .task)) (z .letter)
+              (text-is ds (b .devices) (z .least) (lead-fits (z .least) best)) (text-is ds (b .devices) (z .task) (legal-at l i (z .task) legal here)) (z .first);
         }
 
     told-same : told-at hs ds (x .bus) ≡ tick-tells transfers (ports-side ds) (seen hs ds (x .bus))
@@ -139,15 +139,16 @@ module _ (hs : List HostBehaviour) (ds : List Behaviour) where
         let p = mine .0 in
         let z = law .ticking .stops (sym (event-seen hs ds (x .bus)) ∙ e) l (turn-is (b .turn) l o) i p (mine .1) in
         record {
-            unmarked = ap (λ ts. isSome (getD ts i None)) told-same ∙ z .unmarked;
-            first = (
-                (λ t j other d.
-                    let theirs = carried-from ds (b .devices) l j other (ap (λ cs. getD cs j None) (sym (contests-of hs ds b)) ∙ d) in
-                    let r = z .least (ap (λ ts. isSome (getD ts i None)) (sym told-same) ∙ t) j (theirs .0) (theirs .1) in
-                    ap₂ (λ u w. first-or-same (u .letters) (w .letters)) (mine .2) (theirs .2) ∙ (sym (compared p (theirs .0) i j (mine .1) (theirs .1)) ∙ r)),
-                (λ t. ap (λ ts. isSome (getD ts i None)) told-same ∙ z .wins (λ j q f.
-                    compared p q i j (mine .1) f ∙ (ap (λ u. first-or-same (u .letters) (carry ds (b .devices) q .letters)) (sym (mine .2))
-                    ∙ t j (carry ds (b .devices) q) (ap (λ cs. getD cs j None) (contests-of hs ds b) ∙ carried-at ds (b .devices) l j q f)))));
+          unmarked = ap (λ ts. isSome (getD ts i None)) told-same ∙ z .unmarked;
+          first = (
+            (λ t j other d.
+                let theirs = carried-from ds (b .devices) l j other (ap (λ cs. getD cs j None) (sym (contests-of hs ds b)) ∙ d) in
+                let r = z .least (ap (λ ts. isSome (getD ts i None)) (sym told-same) ∙ t) j (theirs .0) (theirs .1) in
+                ap₂ (λ u w. first-or-same (u .letters) (w .letters)) (mine .2) (theirs .2) ∙ (sym (compared p (theirs .0) i j (mine .1) (theirs .1)) ∙ r)),
+            (λ t. ap (λ ts. isSome (getD ts i None)) told-same ∙ z .wins (λ j q f.
+                compared p q i j (mine .1) f ∙ (ap (λ u. first-or-same (u .letters) (carry ds (b .devices) q .letters)) (sym (mine .2))
+                ∙ t j (carry ds (b .devices) q) (ap (λ cs. getD cs j None) (contests-of hs ds b) ∙ carried-at ds (b .devices) l j q f)))),
+          );
         }
 
     spells : event-at hs ds (x .bus) ≡ Stop → b .turn ≡ true → (best : Carried ds) → least ds (contests hs ds b) ≡ Some best →
@@ -156,7 +157,7 @@ module _ (hs : List HostBehaviour) (ds : List Behaviour) where
         let z = law .ticking .spelled (sym (event-seen hs ds (x .bus)) ∙ e) l (turn-is (b .turn) l o) in
         let same : carry ds (b .devices) (z .least) ≡ best = let f = leads (z .least) (z .leads) in cc in
         same-ranks (watched hs ds (x .watch) b (event-at hs ds (x .bus)) .spelled) (best .letters)
-            (ap (λ w. w .spelling .letters) noted ∙ (z .whole ∙ (text-is ds (b .devices) (z .least) (lead-fits (z .least) (z .leads)) ∙ ap (λ u. map rank (u .letters)) same)))
+        (ap (λ w. w .spelling .letters) noted ∙ (z .whole ∙ (text-is ds (b .devices) (z .least) (lead-fits (z .least) (z .leads)) ∙ ap (λ u. map rank (u .letters)) same)))
 
     tick : Tick-law hs ds x
     tick = record {
@@ -176,9 +177,10 @@ module _ (hs : List HostBehaviour) (ds : List Behaviour) where
         let end = goes-on hs ds n a (setting-out hs ds (x .bus)) in
         let same : reported hs ds end ≡ r = let f : run-at hs ds (x .bus) n a .0 ≡ Ok (reported hs ds end) = rw few in cc in
         let p = c .outcomes-are in
-        let q = c .ticks-are in
-        (rw few (let t : run-on hs ds n 0 a x .told ≡ x .told + end .outcomes = omega arith in t ∙ ap (λ m. x .told + m .outcomes) same),
-         rw few (let t : ticks-of-run hs ds n 0 a x ≡ end .ticks = omega arith in t ∙ ap (λ m. m .ticks) same))
+        let q = c .ticks-are in (
+          rw few (let t : run-on hs ds n 0 a x .told ≡ x .told + end .outcomes = omega arith in t ∙ ap (λ m. x .told + m .outcomes) same),
+          rw few (let t : ticks-of-run hs ds n 0 a x ≡ end .ticks = omega arith in t ∙ ap (λ m. m .ticks) same),
+        )
 
     lively : any-true (armed-now hs ds x) ≡ true → (cs : List (Call hs ds)) → 160000 ≤ ticks-of hs ds x cs → x .told < used hs ds x cs .told
     lively e cs h =

@@ -35,6 +35,7 @@ first-difference ts us xs ys c e f d = record {
 } where
   at-t : (k : ℕ) → getD xs k 0 ≡ rank (getD ts k low)
   at-t k = ap (λ l. getD l k 0) e ∙ rank-at ts k
+
   at-u : (k : ℕ) → getD ys k 0 ≡ rank (getD us k low)
   at-u k = ap (λ l. getD l k 0) f ∙ rank-at us k
 

@@ -107,7 +107,7 @@ module _ (hs : List HostBehaviour) (ds : List Behaviour) where
   watch-as : (x : Use hs ds) → Sound hs ds (x .book) →
       noted-as (notes-lost (watched hs ds (x .watch) (x .book) (event-at hs ds (x .bus))) (marks-of hs ds (x .bus))) ≡
       noted transfers (turned transfers (noted-as (x .watch)) (tasks hs (x .book .entries)) (turn-if (x .book .turn) (contenders hs (x .book .entries))) (tick-event transfers (ports-side ds) (seen hs ds (x .bus))))
-          (tick-verdicts transfers (ports-side ds) (seen hs ds (x .bus)))
+      (tick-verdicts transfers (ports-side ds) (seen hs ds (x .bus)))
   watch-as x k =
       let u = x .bus in
       let w = watched hs ds (x .watch) (x .book) (event-at hs ds u) in
@@ -116,7 +116,7 @@ module _ (hs : List HostBehaviour) (ds : List Behaviour) where
       ap (λ l. record { falls = w .falls; risen = w .risen; marked = l; spelling = noted-as w .spelling }) marked
       ∙ (ap (λ z. noted transfers z (verdicts transfers (masters-of hs (u .masters)) (signal (u .wire) v))) (watched-as hs ds (x .watch) (x .book) (event-at hs ds u) k)
       ∙ ap₂ (λ e z. noted transfers (turned transfers (noted-as (x .watch)) (tasks hs (x .book .entries)) (turn-if (x .book .turn) (contenders hs (x .book .entries))) e) (verdicts transfers (masters-of hs (u .masters)) (signal (u .wire) z)))
-          (event-seen u) (levels-seen hs ds u))
+      (event-seen u) (levels-seen hs ds u))
 
   pub ticked-as : (x : Use hs ds) (a : Holds ds) → Good x → used-as (ticks-once hs ds x a) ≡ law-does (used-as x) (step-ticks (answer-at hs ds (x .bus) a))
   ticked-as x a k =

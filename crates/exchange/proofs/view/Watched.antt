@@ -38,9 +38,9 @@ ranks-append (t ∷ ts) us = ap (λ l. rank t ∷ l) (ranks-append ts us)
 
 falls-as : (w : Watch) (o : Option Bool) → w .latch ≡ o → noted-as (sees (watching (w .falls) (w .risen) (w .marked) o (w .spelled)) Fall) ≡ watch (suc (w .falls)) false (w .marked) (fallen o (map rank (w .spelled)))
 falls-as w None e = ap (λ l. watch (suc (w .falls)) false (w .marked) (spell None l)) (append-none (w .spelled)) where
-    append-none : (ts : List Letter) → map rank (ts ++ []) ≡ map rank ts
-    append-none [] = refl
-    append-none (t ∷ ts) = ap (λ l. rank t ∷ l) (append-none ts)
+  append-none : (ts : List Letter) → map rank (ts ++ []) ≡ map rank ts
+  append-none [] = refl
+  append-none (t ∷ ts) = ap (λ l. rank t ∷ l) (append-none ts)
 falls-as w (Some true) e = ap (λ l. watch (suc (w .falls)) false (w .marked) (spell None l)) (ranks-append (w .spelled) (bit-letter true ∷ []))
 falls-as w (Some false) e = ap (λ l. watch (suc (w .falls)) false (w .marked) (spell None l)) (ranks-append (w .spelled) (bit-letter false ∷ []))
 
@@ -64,7 +64,7 @@ falses-are (h ∷ hs) es = ap (λ l. false ∷ l) (falses-are hs (es .1))
 module _ (hs : List HostBehaviour) (ds : List Behaviour) where
   opening-as : (w : Watch) (b : Book hs ds) (v : Bool) →
       noted-as (cond (cond {A = Book hs ds} v (record { entries = each enters hs (b .entries); devices = b .devices; turn = true }) (record { entries = b .entries; devices = b .devices; turn = false }) .turn)
-          (watching 0 false (listed (λ h x. false) hs (b .entries)) None []) w)
+      (watching 0 false (listed (λ h x. false) hs (b .entries)) None []) w)
       ≡ cond v (watch 0 false (falses (tasks hs (b .entries))) (spell None [])) (noted-as w)
   opening-as w b true = ap (λ l. watch 0 false l (spell None [])) (falses-are hs (b .entries))
   opening-as w b false = refl

@@ -4,6 +4,8 @@ ghost use Prim.Native.Nat.{_≤_};
 ghost use lib.ListN.{length};
 ghost use Rattle.transfer.specs.Refusals.{answer};
 ghost use Rattle.exchange.specs.Buses.{BusModel, made, arm-at, Holds, tick-at, is-at-rest};
+ghost use Rattle.exchange.specs.Facts.{String-laws, Byte-laws};
+ghost use Rattle.exchange.specs.Laws.{Every-use};
 ghost use Rattle.exchange.specs.Parts.{bus-model};
 use super::Bus;
 use super::Tick;
@@ -14,12 +16,16 @@ use crate::wire::Wire;
 use transfer::Refusal;
 
 impl<M: Masters, P: Ports> Bus<M, P> {
-    // The parts are brought to rest: no master is armed, and every port is out.
+    // The parts are brought to rest: no master is armed, and every port is out. With the bus comes the law over every
+    // use of it from here on.
     pub fn new(mut masters: M, mut ports: P) -> Bus<M, P>
         requires some_master { ⌜ 1 ≤ length (M·Masters .hosts) ⌝ }
         requires few_masters { ⌜ length (M·Masters .hosts) ≤ 8 ⌝ }
         requires few_ports { ⌜ length (P·Ports .devices) ≤ 16 ⌝ }
-        ensures { λ r. ⌜ bus-model (M·Masters .hosts) (M·Masters .stand) (P·Ports .devices) (P·Ports .stand) r ≡ made (M·Masters .hosts) (P·Ports .devices) (M·Masters .stand masters) (P·Ports .stand ports) ⌝ }
+        ensures made { λ r. ⌜ bus-model (M·Masters .hosts) (M·Masters .stand) (P·Ports .devices) (P·Ports .stand) r ≡ made (M·Masters .hosts) (P·Ports .devices) (M·Masters .stand masters) (P·Ports .stand ports) ⌝ }
+        ensures law { λ _. ⌜ Every-use (M·Masters .hosts) (P·Ports .devices) (M·Masters .stand masters) (P·Ports .stand ports) ⌝ }
+        ensures strings { λ _. ⌜ String-laws (P·Ports .devices) (P·Ports .devices) ⌝ }
+        ensures bytes { λ _. ⌜ Byte-laws (P·Ports .devices) ⌝ }
     {
         masters.reset();
         ports.reset();
