@@ -1,4 +1,18 @@
 // The bus of the sensor head: a logger, an alarm unit and a service port, and the three devices that they share.
+ghost use mathlib.Core.List.{[], _∷_};
+ghost use mathlib.Core.Path.{_≡_};
+ghost use Rattle.std.specs.Vec.{made};
+ghost use Rattle.std.specs.declared.option.Option.the-variants.{None};
+ghost use Rattle.device.specs.EventQueues.{queued};
+ghost use Rattle.host.specs.ListHosts.{listed};
+ghost use Rattle.head.specs.Setups.{log-write, log-read, event-read, service-write, probe-write, ListsAt, PollsAt};
+use crate::transfers::EVENTS;
+use crate::transfers::REGISTERS;
+use crate::transfers::event_read;
+use crate::transfers::log_read;
+use crate::transfers::log_write;
+use crate::transfers::probe_write;
+use crate::transfers::service_write;
 use device::Busy;
 use device::BusyDevice;
 use device::EventQueue;
@@ -21,7 +35,6 @@ use host::PollHost;
 use host::PollHostHost;
 use transfer::Address;
 use transfer::ClockPair;
-use transfer::Draft;
 use transfer::Refusal;
 use transfer::Transfer;
 
@@ -37,71 +50,70 @@ pub type HeadPorts = (
 
 pub type HeadBus = Bus<HeadMasters, HeadPorts>;
 
-const REGISTERS: u32 = 0x50;
-
-// Two queues have this address, and the lines join what they show.
-const EVENTS: u32 = 0x51;
-
-const NOBODY: u32 = 0x22;
-
-fn write_of(address: u32, bytes: &[u8]) -> Result<Transfer, Refusal> {
-    let mut draft = Draft::new(Address::new(address)?);
-    draft.write(bytes)?;
-    Ok(draft.seal())
-}
-
-// Two registers from number 3 on.
-fn read_back() -> Result<Transfer, Refusal> {
-    let address = Address::new(REGISTERS)?;
-    let mut draft = Draft::new(address);
-    draft.write(&[0x03])?;
-    draft.second_leg(address)?;
-    draft.read(2)?;
-    Ok(draft.seal())
-}
-
-fn list_of(transfers: &[Transfer]) -> Result<ListHost, Refusal> {
+fn list_of(first: Transfer, second: Transfer) -> Result<ListHost, Refusal>
+    ensures { λ r. ⌜ made r (λ h. listed h ≡ record { rest = first ∷ second ∷ []; last = None }) ⌝ }
+{
     let mut host = ListHost::new();
-    host.fill(transfers)?;
+    host.fill(&[first, second])?;
     Ok(host)
 }
 
-fn queue_of(bytes: &[u8]) -> Result<EventQueue, Refusal> {
-    let mut queue = EventQueue::new();
-    queue.fill(bytes)?;
-    Ok(queue)
-}
-
-fn logger() -> Result<Master<ListHost>, Refusal> {
-    let log = write_of(REGISTERS, &[0x03, 0x7F, 0x80])?;
-    let host = list_of(&[log, read_back()?])?;
-    Ok(Master::new(ClockPair::new(2, 2)?, host))
+fn logger() -> Result<Master<ListHost>, Refusal>
+    ensures { λ r. ⌜ made r (ListsAt 2 2 log-write log-read) ⌝ }
+{
+    let clock = ClockPair::new(2, 2)?;
+    let write = log_write()?;
+    let read = log_read()?;
+    let host = list_of(write, read)?;
+    Ok(Master::new(clock, host))
 }
 
 // It polls until an event has its highest bit set.
-fn alarm_unit() -> Result<Master<PollHost>, Refusal> {
-    let mut draft = Draft::new(Address::new(EVENTS)?);
-    draft.read(1)?;
-    let host = PollHost::new(draft.seal(), 0x80);
-    Ok(Master::new(ClockPair::new(1, 3)?, host))
+fn alarm_unit() -> Result<Master<PollHost>, Refusal>
+    ensures { λ r. ⌜ made r (PollsAt 1 3 event-read) ⌝ }
+{
+    let clock = ClockPair::new(1, 3)?;
+    let read = event_read()?;
+    Ok(Master::new(clock, PollHost::new(read, 0x80)))
 }
 
-fn service_port() -> Result<Master<ListHost>, Refusal> {
-    let service = write_of(REGISTERS, &[0x03, 0x7F])?;
-    let host = list_of(&[service, write_of(NOBODY, &[])?])?;
-    Ok(Master::new(ClockPair::new(3, 1)?, host))
+fn service_port() -> Result<Master<ListHost>, Refusal>
+    ensures { λ r. ⌜ made r (ListsAt 3 1 service-write probe-write) ⌝ }
+{
+    let clock = ClockPair::new(3, 1)?;
+    let write = service_write()?;
+    let nobody = probe_write()?;
+    let host = list_of(write, nobody)?;
+    Ok(Master::new(clock, host))
+}
+
+fn slow_events() -> Result<Slow<EventQueue>, Refusal>
+    ensures { λ r. ⌜ made r (λ s. (s .number ≡ 5) × (queued (s .device) ≡ 0x91 ∷ 0x85 ∷ [])) ⌝ }
+{
+    let mut queue = EventQueue::new();
+    queue.fill(&[0x91, 0x85])?;
+    Ok(Slow::new(5, queue))
+}
+
+fn quick_events() -> Result<EventQueue, Refusal>
+    ensures { λ r. ⌜ made r (λ q. queued q ≡ 0x31 ∷ []) ⌝ }
+{
+    let mut queue = EventQueue::new();
+    queue.fill(&[0x31])?;
+    Ok(queue)
 }
 
 fn ports() -> Result<HeadPorts, Refusal> {
-    let registers = Busy::new(1, RegisterFile::new());
-    let slow_events = Slow::new(5, queue_of(&[0x91, 0x85])?);
-    let events = queue_of(&[0x31])?;
+    let at_registers = Address::new(REGISTERS)?;
     let at_events = Address::new(EVENTS)?;
+    let registers = Busy::new(1, RegisterFile::new());
+    let slow = slow_events()?;
+    let quick = quick_events()?;
     Ok((
-        Port::new(Address::new(REGISTERS)?, registers),
+        Port::new(at_registers, registers),
         (
-            Port::new(at_events, slow_events),
-            (Port::new(at_events, events), End),
+            Port::new(at_events, slow),
+            (Port::new(at_events, quick), End),
         ),
     ))
 }
