@@ -3,9 +3,12 @@ ghost use mathlib.Core.List.{[], _∷_};
 ghost use mathlib.Core.Path.{_≡_};
 ghost use Rattle.std.specs.Vec.{made};
 ghost use Rattle.std.specs.declared.option.Option.the-variants.{None};
-ghost use Rattle.device.specs.EventQueues.{queued};
+ghost use Rattle.device.specs.BusyLayers.{busy-over};
+ghost use Rattle.device.specs.EventQueues.{event-queue, queued};
+ghost use Rattle.device.specs.RegisterFiles.{register-file};
 ghost use Rattle.host.specs.ListHosts.{listed};
-ghost use Rattle.head.specs.Setups.{log-write, log-read, event-read, service-write, probe-write, ListsAt, PollsAt};
+ghost use Rattle.exchange.specs.Ports.{new-port};
+ghost use Rattle.head.specs.Setups.{registers-port, slow-port, quick-port, idle-registers, slow-queue, quick-queue, IsHead, log-write, log-read, event-read, service-write, probe-write, ListsAt, PollsAt};
 use crate::transfers::EVENTS;
 use crate::transfers::REGISTERS;
 use crate::transfers::event_read;
@@ -87,38 +90,56 @@ fn service_port() -> Result<Master<ListHost>, Refusal>
     Ok(Master::new(clock, host))
 }
 
+fn registers_port() -> Result<Port<Busy<RegisterFile>>, Refusal>
+    ensures { λ r. ⌜ made r (λ p. registers-port p ≡ new-port (busy-over register-file) 80 idle-registers) ⌝ }
+{
+    let address = Address::new(REGISTERS)?;
+    let device = Busy::new(1, RegisterFile::new());
+    Ok(Port::new(address, device))
+}
+
 fn slow_events() -> Result<Slow<EventQueue>, Refusal>
-    ensures { λ r. ⌜ made r (λ s. (s .number ≡ 5) × (queued (s .device) ≡ 0x91 ∷ 0x85 ∷ [])) ⌝ }
+    ensures { λ r. ⌜ made r (λ s. (s .number ≡ 5) × (queued (s .device) ≡ slow-queue)) ⌝ }
 {
     let mut queue = EventQueue::new();
     queue.fill(&[0x91, 0x85])?;
     Ok(Slow::new(5, queue))
 }
 
+fn slow_port() -> Result<Port<Slow<EventQueue>>, Refusal>
+    ensures { λ r. ⌜ made r (λ p. slow-port p ≡ new-port event-queue 81 slow-queue) ⌝ }
+{
+    let address = Address::new(EVENTS)?;
+    let device = slow_events()?;
+    Ok(Port::new(address, device))
+}
+
 fn quick_events() -> Result<EventQueue, Refusal>
-    ensures { λ r. ⌜ made r (λ q. queued q ≡ 0x31 ∷ []) ⌝ }
+    ensures { λ r. ⌜ made r (λ q. queued q ≡ quick-queue) ⌝ }
 {
     let mut queue = EventQueue::new();
     queue.fill(&[0x31])?;
     Ok(queue)
 }
 
-fn ports() -> Result<HeadPorts, Refusal> {
-    let at_registers = Address::new(REGISTERS)?;
-    let at_events = Address::new(EVENTS)?;
-    let registers = Busy::new(1, RegisterFile::new());
-    let slow = slow_events()?;
-    let quick = quick_events()?;
-    Ok((
-        Port::new(at_registers, registers),
-        (
-            Port::new(at_events, slow),
-            (Port::new(at_events, quick), End),
-        ),
-    ))
+fn quick_port() -> Result<Port<EventQueue>, Refusal>
+    ensures { λ r. ⌜ made r (λ p. quick-port p ≡ new-port event-queue 81 quick-queue) ⌝ }
+{
+    let address = Address::new(EVENTS)?;
+    let device = quick_events()?;
+    Ok(Port::new(address, device))
 }
 
-pub fn head_bus() -> Result<HeadBus, Refusal> {
-    let masters = (logger()?, (alarm_unit()?, (service_port()?, End)));
-    Ok(Bus::new(masters, ports()?))
+pub fn head_bus() -> Result<HeadBus, Refusal>
+    ensures { λ r. ⌜ made r IsHead ⌝ }
+{
+    let first = logger()?;
+    let second = alarm_unit()?;
+    let third = service_port()?;
+    let registers = registers_port()?;
+    let slow = slow_port()?;
+    let quick = quick_port()?;
+    let masters = (first, (second, (third, End)));
+    let ports = (registers, (slow, (quick, End)));
+    Ok(Bus::new(masters, ports))
 }

@@ -1,6 +1,6 @@
 use mathlib.Core.Path.{refl}
 use Rattle.host.specs.PollHosts.{poll-host, polled}
-use Rattle.head.proofs.Masters.{ok-same, serves}
+use Rattle.head.proofs.Heads.{ok-same, serves}
 use Rattle.head.proofs.setup.alarm_unit.Needs as need
 
 pub returns : need.returns
