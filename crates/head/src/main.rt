@@ -4,6 +4,7 @@ use fault::Fault;
 mod fault;
 mod run;
 mod setup;
+mod transfers;
 
 fn main(rt: LibcRuntime) -> Result<(), Fault> {
     run::run(&rt)
