@@ -13,4 +13,4 @@ returns c =
     let first = serves _ _ _ _ m (c .new-4 .ensures) quick in
     let second = serves _ _ _ _ n (c .new-5 .ensures) slow in
     let port = port-is _ _ _ (c .new-7 .ensures) at-80 (c .new-6 .ensures) in
-    (m, n, c .in-Continue-first-host .ensures tt, c .in-Continue-second-host .ensures tt, pair-is _ _ _ _ m n (c .new-8 .ensures) first second port)
+    (m, n, c .in-Continue-first-host .ensures tt, c .in-Continue-second-host .ensures tt, pair-is _ _ _ _ m n (c .new-8 .ensures .made) first second port)
