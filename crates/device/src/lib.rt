@@ -1,4 +1,6 @@
 // Devices: what a port carries. A make says by its behaviour what it means, and shows that it keeps to it.
+#![tactic(auto)]
+
 mod busy;
 mod device;
 mod event_queue;

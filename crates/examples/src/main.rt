@@ -1,4 +1,6 @@
 // Arbitration by example: two masters at odds, under several clock pairs, and who was told at the first stop.
+#![tactic(auto)]
+
 use fault::Fault;
 
 mod run;

@@ -1,4 +1,6 @@
 // The bus in ticks: what all parts pull gives the levels, the levels give the event, and every master and port steps on it.
+#![tactic(auto)]
+
 mod bank;
 mod bus;
 

@@ -1,4 +1,6 @@
 // Why a program ends early.
+#![tactic(auto)]
+
 ghost use Rattle.std.specs.Prelude.{◌≡◌};
 ghost use Rattle.fault.specs.declared.Fault.TheVariants.{Memory, Refused, Io};
 

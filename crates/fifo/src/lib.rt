@@ -1,4 +1,6 @@
 // A list of up to 8 items that is filled as a whole and taken from the front.
+#![tactic(auto)]
+
 ghost use Rattle.std.specs.Prelude.{◌≤◌};
 
 mod calls;

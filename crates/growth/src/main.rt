@@ -1,4 +1,6 @@
 // Ticks a bus of 1, 2, 4 or 8 masters and 1, 4 or 16 ports, as often as standard input says, and counts the outcomes.
+#![tactic(auto)]
+
 use work::Work;
 
 mod banks;

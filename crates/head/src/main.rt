@@ -1,4 +1,6 @@
 // Three masters of one sensor head: the listing of their run, what each was told last, and the registers.
+#![tactic(auto)]
+
 use fault::Fault;
 
 mod run;

@@ -1,4 +1,6 @@
 // Hosts: what a master serves. A make says by its behaviour what it means, and shows that it keeps to it.
+#![tactic(auto)]
+
 mod host;
 mod list_host;
 mod poll_host;

@@ -1,4 +1,6 @@
 // The text of a run: what each tick shows, by number, one line for each mark.
+#![tactic(auto)]
+
 mod listing;
 mod marks;
 

@@ -1,4 +1,6 @@
 // A device and a host of somebody else's, as the example for new makes.
+#![tactic(auto)]
+
 mod counter;
 mod once;
 

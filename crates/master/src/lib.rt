@@ -1,4 +1,6 @@
 // A master: it plays a transfer symbol by symbol, in step with whoever else contends, until it is done or has lost.
+#![tactic(auto)]
+
 mod cursor;
 mod mark;
 mod master;

@@ -1,4 +1,6 @@
 // Two masters write to one register file at the same time, and the listing of the bus is printed.
+#![tactic(auto)]
+
 use fault::Fault;
 use std::io::{ErrorKind, Read};
 

@@ -1,4 +1,6 @@
 // A port: it hears the bytes of the bus for its device, and answers for it.
+#![tactic(auto)]
+
 mod port;
 
 pub use port::{Mode, Partial, Port};

@@ -1,4 +1,6 @@
 // Numbers, bytes and outcomes as text.
+#![tactic(auto)]
+
 mod digits;
 mod numeral;
 mod outcome;

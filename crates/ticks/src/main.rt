@@ -1,4 +1,6 @@
 // Ticks a bus of two masters for ever at odds, as often as standard input says, and counts the outcomes.
+#![tactic(auto)]
+
 use device::RegisterFile;
 use exchange::{Bus, End, Masters, Ports};
 use host::PollHost;

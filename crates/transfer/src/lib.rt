@@ -1,4 +1,6 @@
 // What is sent over the bus and what comes of it: addresses, clock counts, legs, drafts, transfers and outcomes.
+#![tactic(auto)]
+
 mod address;
 mod clock;
 mod draft;

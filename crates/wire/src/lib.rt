@@ -1,4 +1,6 @@
 // The two lines and what passes over them: levels, events, and the bits of a byte.
+#![tactic(auto)]
+
 mod octet;
 mod wire;
 
