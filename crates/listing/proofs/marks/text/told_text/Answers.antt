@@ -18,9 +18,9 @@ loop-i-preserved c =
       | in-Told+in-ok-told-item+in-ok-push-str w ↦
           (let item = w.as-str.result.now in
           let is : item ≡ add i = w.as-str.ensures.value ∙ w.in-ok-told-item.ensures in
-          let grown : next ≡ text ++ item = ap string_bytes w.text_is ∙ pushed {was = text} item refl w.in-ok-push-str.was w.push-str.ensures.bytes in
+          let grown : next ≡ text ++ item = ap string_bytes w.text-is ∙ pushed {was = text} item refl w.in-ok-push-str.was w.push-str.ensures.bytes in
           passes is_told add ms i Quiet text item next _ within (ap is_told w.in-Told.is) is grown c.loop-i.invariant)
-      | in-default w ↦ fails is_told add ms i Quiet text next _ within (not_told _ w.in-default.not-Told) (ap string_bytes w.text_is) c.loop-i.invariant
+      | in-default w ↦ fails is_told add ms i Quiet text next _ within (not_told _ w.in-default.not-Told) (ap string_bytes w.text-is) c.loop-i.invariant
     ]
 
 pub returns : goal.returns
