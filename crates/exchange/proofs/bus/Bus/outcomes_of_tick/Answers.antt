@@ -15,6 +15,6 @@ returns g c =
     record {
       few = c.outcomes.ensures.few;
       all = c.outcomes.ensures.all ∙ ap (λ x. tolds x.0.marks) tick_is
-          ∙ tolds_are_all hs (signal u.wire (levels_at hs ds u)) u.masters 8 c.requires.few-masters;
+          ∙ tolds_are_all hs (signal u.wire (levels_at hs ds u)) u.masters 8 c.requires.few_masters;
       after = (c.tick.ensures.0, ap (λ x. x.1) tick_is);
     }

@@ -1,10 +1,10 @@
 use Rattle.std.proofs.Common.{◌+◌, cond, sym, ap, ◌∙◌, inl, inr, add-zero, arith}
 use Rattle.exchange.proofs.Counting.{reached_none, reached_more, run_is, refused}
 use Rattle.exchange.proofs.bus.Bus.run.Goals as goal
-use Rattle.exchange.proofs.bus.Bus.run.Goals.{then-ticks-n-via-then-ticks-n, then-ticks-n-via-else-ticks-n+then-at-rest}
+use Rattle.exchange.proofs.bus.Bus.run.Goals.{then-ticks-n-via-then-ticks-n, then-ticks-n-via-else-ticks-n+then-at_rest}
 
-pub returns-then-n-gt-MOST-TICKS : goal.returns-then-n-gt-MOST-TICKS
-returns-then-n-gt-MOST-TICKS g c = refused _ _ _ c.args.n c.if-n-gt-MOST-TICKS.true
+pub returns-then-n-gt-MOST_TICKS : goal.returns-then-n-gt-MOST_TICKS
+returns-then-n-gt-MOST_TICKS g c = refused _ _ _ c.args.n c.if-n-gt-MOST_TICKS.true
 
 pub loop-ticks-init : goal.loop-ticks-init
 loop-ticks-init g c = (omega arith, omega arith, omega arith, reached_none _ _ _)
@@ -14,8 +14,8 @@ loop-ticks-preserved-then-self g c = (
   omega arith,
   omega arith,
   omega arith,
-  reached_more _ _ _ _ c.outcomes-of-tick-outcomes.ensures.after.0 _ _ _ c.if-at-rest.ensures
-      c.outcomes-of-tick-outcomes.ensures.after.1 c.outcomes-of-tick-outcomes.ensures.all
+  reached_more _ _ _ _ c.outcomes_of_tick-outcomes.ensures.after.0 _ _ _ c.if-at_rest.ensures
+      c.outcomes_of_tick-outcomes.ensures.after.1 c.outcomes_of_tick-outcomes.ensures.all
       (ap (λ b. c.loop-ticks.busy + cond b 1 0) (sym c.if-self.true)) c.loop-ticks.invariant.3,
 )
 
@@ -24,16 +24,16 @@ loop-ticks-preserved g c = (
   omega arith,
   omega arith,
   omega arith,
-  reached_more _ _ _ _ c.outcomes-of-tick-outcomes.ensures.after.0 _ _ _ c.if-at-rest.ensures
-      c.outcomes-of-tick-outcomes.ensures.after.1 c.outcomes-of-tick-outcomes.ensures.all
+  reached_more _ _ _ _ c.outcomes_of_tick-outcomes.ensures.after.0 _ _ _ c.if-at_rest.ensures
+      c.outcomes_of_tick-outcomes.ensures.after.1 c.outcomes_of_tick-outcomes.ensures.all
       (sym (add-zero _) ∙ ap (λ b. c.loop-ticks.busy + cond b 1 0) (sym c.if-self.false)) c.loop-ticks.invariant.3,
 )
 
 pub returns : goal.returns
 returns g c =
-    run_is _ _ _ _ c.args.n c.load.result c.if-n-gt-MOST-TICKS.false c.loop-ticks.invariant.0 c.load.ensures
+    run_is _ _ _ _ c.args.n c.load.result c.if-n-gt-MOST_TICKS.false c.loop-ticks.invariant.0 c.load.ensures
     (elim c.then-ticks-n.branch [
       | then-ticks-n-via-then-ticks-n w ↦ inl w.if-ticks-n.true
-      | then-ticks-n-via-else-ticks-n+then-at-rest w ↦ inr w.if-at-rest.ensures
+      | then-ticks-n-via-else-ticks-n+then-at_rest w ↦ inr w.if-at_rest.ensures
     ])
     c.loop-ticks.invariant.3
