@@ -8,7 +8,7 @@ use std::alloc::AllocError;
 use std::io;
 use transfer::Refusal;
 
-#[derive(Drop)]
+#[derive(Debug, Drop)]
 pub enum Fault {
     Memory,
     Refused(Refusal),

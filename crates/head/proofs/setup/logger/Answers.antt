@@ -6,7 +6,7 @@ use Rattle.head.proofs.setup.logger.Goals as goal
 
 pub returns : goal.returns
 returns c =
-    let m = listed c.in-ok-host.host in
-    let counts = ok_same _ _ _ refl c.in-ok-clock.ensures in
-    let both : Lists log_write log_read m = (c.in-ok-write.write, c.in-ok-read.read, c.in-ok-write.ensures, c.in-ok-read.ensures, c.in-ok-host.ensures) in
+    let m = listed c.in_ok-host.host in
+    let counts = ok_same _ _ _ refl c.in_ok-clock.ensures in
+    let both : Lists log_write log_read m = (c.in_ok-write.write, c.in_ok-read.read, c.in_ok-write.ensures, c.in_ok-read.ensures, c.in_ok-host.ensures) in
     (m, both, serves list_host _ _ _ _ m c.new-2.ensures counts)

@@ -5,5 +5,5 @@ use Rattle.head.proofs.setup.quick_port.Goals as goal
 
 pub returns : goal.returns
 returns c =
-    let at = ok_same _ _ _ refl c.in-ok-address.ensures in
-    port_is event_queue _ _ _ _ _ c.new-2.ensures at c.in-ok-device.ensures
+    let at = ok_same _ _ _ refl c.in_ok-address.ensures in
+    port_is event_queue _ _ _ _ _ c.new-2.ensures at c.in_ok-device.ensures

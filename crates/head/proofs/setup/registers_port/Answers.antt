@@ -10,5 +10,5 @@ idle f = record { number = 1; left = 0; inside = false; wrote = false; below = f
 pub returns : goal.returns
 unfolding idle
 returns c =
-    let at = ok_same _ _ _ refl c.in-ok-address.ensures in
+    let at = ok_same _ _ _ refl c.in_ok-address.ensures in
     port_is (busy_over register_file) _ _ _ _ _ c.new-3.ensures at (c.new-device.ensures ∙ ap idle c.new-2.ensures)

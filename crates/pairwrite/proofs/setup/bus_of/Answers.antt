@@ -5,12 +5,12 @@ use Rattle.pairwrite.proofs.setup.bus_of.Goals as goal
 
 pub returns : goal.returns
 returns c =
-    let m = listed c.in-ok-first-host.first-host in
-    let n = listed c.in-ok-second-host.second-host in
-    let quick = ok_same _ _ _ refl c.in-ok-quick.ensures in
-    let slow = ok_same _ _ _ refl c.in-ok-slow.ensures in
-    let at_80 = ok_same _ _ _ refl c.in-ok-address.ensures in
+    let m = listed c.in_ok-first_host.first_host in
+    let n = listed c.in_ok-second_host.second_host in
+    let quick = ok_same _ _ _ refl c.in_ok-quick.ensures in
+    let slow = ok_same _ _ _ refl c.in_ok-slow.ensures in
+    let at_80 = ok_same _ _ _ refl c.in_ok-address.ensures in
     let first = serves _ _ _ _ m c.new-4.ensures quick in
     let second = serves _ _ _ _ n c.new-5.ensures slow in
     let port = port_is _ _ _ c.new-7.ensures at_80 c.new-6.ensures in
-    (m, n, c.in-ok-first-host.ensures, c.in-ok-second-host.ensures, pair_is _ _ _ _ m n c.new-8.ensures.made first second port)
+    (m, n, c.in_ok-first_host.ensures, c.in_ok-second_host.ensures, pair_is _ _ _ _ m n c.new-8.ensures.made first second port)
