@@ -3,7 +3,6 @@ use Rattle.std.specs.Prelude.{◌≡◌, ℕ, false, List, [], ◌∷◌, Some, 
 use Rattle.transfer.specs.declared.draft.Transfer.{Transfer}
 use Rattle.transfer.specs.Drafts.{TransferModel, transfer_model}
 use Rattle.transfer.specs.Legs.{LegModel, writes, reads}
-use Rattle.device.specs.declared.device.Device as device
 use Rattle.device.specs.declared.busy.Busy.{Busy}
 use Rattle.device.specs.declared.event_queue.EventQueue.{EventQueue}
 use Rattle.device.specs.declared.register_file.RegisterFile.{RegisterFile}
@@ -12,7 +11,6 @@ use Rattle.device.specs.Behaviours.{Behaviour}
 use Rattle.device.specs.BusyLayers.{Busied, busy_over, busied}
 use Rattle.device.specs.EventQueues.{event_queue, queued}
 use Rattle.device.specs.RegisterFiles.{register_file, registers, new_registers}
-use Rattle.host.specs.declared.host.Host as host
 use Rattle.host.specs.Behaviours.{HostBehaviour}
 use Rattle.host.specs.declared.list_host.ListHost.{ListHost}
 use Rattle.host.specs.declared.poll_host.PollHost.{PollHost}
@@ -60,34 +58,24 @@ Lists a b m = (t : Transfer) × (u : Transfer) × (transfer_model t ≡ a) × (t
 abbrev pub Polls : TransferModel → Polled → Type 0
 Polls a m = (t : Transfer) × (transfer_model t ≡ a) × (m ≡ record { transfer = t; mask = 128; met = false; last = None })
 
--- the makes by their behaviours; what a device answers to hold is open
-abbrev pub list_make : host.Ghosts ListHost
-list_make = record { behaviour = list_host; means = listed }
-
-abbrev pub poll_make : host.Ghosts PollHost
-poll_make = record { behaviour = poll_host; means = polled }
-
-abbrev pub device_make : (b : Behaviour) {D : Type 0} → (D → b.Meaning) → device.Ghosts D
-device_make b means = record { behaviour = b; means = means; holds = λ _ _. Unit {0} }
-
 -- a new master with these clock counts
 abbrev pub serving : (h : HostBehaviour) → ℕ → ℕ → h.Meaning → Served h
 serving h low high m = record { master = new_master transfers low high; meaning = m }
 
 abbrev pub ListsAt : ℕ → ℕ → TransferModel → TransferModel → Master ListHost → Type 0
-ListsAt low high a b x = (m : Listed) × Lists a b m × (served list_make x ≡ serving list_host low high m)
+ListsAt low high a b x = (m : Listed) × Lists a b m × (served list_host listed x ≡ serving list_host low high m)
 
 abbrev pub PollsAt : ℕ → ℕ → TransferModel → Master PollHost → Type 0
-PollsAt low high a x = (m : Polled) × Polls a m × (served poll_make x ≡ serving poll_host low high m)
+PollsAt low high a x = (m : Polled) × Polls a m × (served poll_host polled x ≡ serving poll_host low high m)
 
 abbrev pub registers_port : Port (Busy RegisterFile) → PortModel (busy_over register_file)
-registers_port p = port_model (device_make (busy_over register_file) (busied register_file registers)) p
+registers_port p = port_model (busy_over register_file) (busied register_file registers) p
 
 abbrev pub slow_port : Port (Slow EventQueue) → PortModel event_queue
-slow_port p = port_model (device_make event_queue (λ s. queued s.device)) p
+slow_port p = port_model event_queue (λ s. queued s.device) p
 
 abbrev pub quick_port : Port EventQueue → PortModel event_queue
-quick_port p = port_model (device_make event_queue queued) p
+quick_port p = port_model event_queue queued p
 
 -- not busy yet, and busy for one select after a write
 abbrev pub idle_registers : Busied register_file
@@ -111,8 +99,8 @@ Whole = Bus (Master ListHost × (Master PollHost × (Master ListHost × End))) (
 
 abbrev pub head_model : Whole → BusModel head_hosts head_devices
 head_model u =
-    bus_model (record { hosts = head_hosts; stand = λ m. (served list_make m.0, (served poll_make m.1.0, (served list_make m.1.1.0, tt))) })
-    (record { devices = head_devices; stand = λ p. (registers_port p.0, (slow_port p.1.0, (quick_port p.1.1.0, tt))) }) u
+    bus_model head_hosts (λ m. (served list_host listed m.0, (served poll_host polled m.1.0, (served list_host listed m.1.1.0, tt))))
+    head_devices (λ p. (registers_port p.0, (slow_port p.1.0, (quick_port p.1.1.0, tt)))) u
 
 -- the two queues have one address
 abbrev pub head : Listed → Polled → Listed → BusModel head_hosts head_devices

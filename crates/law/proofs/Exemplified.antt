@@ -1,5 +1,5 @@
 -- The worked examples, computed.
-use Rattle.std.proofs.Common.{◌≡◌, ℕ, List, [], ◌∷◌, Some, None, Option, refl, ◌∙◌, ap₂}
+use Rattle.std.proofs.Common.{◌≡◌, ℕ, false, List, [], ◌∷◌, replicate, slice_set, Some, None, Option, refl, ◌∙◌, ap₂}
 use Rattle.transfer.specs.declared.draft.Transfer.{Transfer}
 use Rattle.transfer.specs.Drafts.{TransferModel, transfer_model}
 use Rattle.transfer.specs.Outcomes.{OutcomeModel}
@@ -9,7 +9,7 @@ use Rattle.device.specs.RegisterFiles.{Registers, new_registers, register_file}
 use Rattle.law.specs.Banks.{Bank}
 use Rattle.law.specs.Books.{Standing, unarmed, armed, Entry, least, told_all, devices_after, leave_all}
 use Rattle.law.specs.Carrying.{Placed, Carried, carried}
-use Rattle.law.specs.Examples.{RefusedExamples, StringExamples, TurnExamples, WorkedExamples, two_hosts, open_book, Turn, Wins, placed, write, read_of, write_read, done, pointed_at, stored_at_3, busy_registers}
+use Rattle.law.specs.Examples.{RefusedExamples, StringExamples, TurnExamples, WorkedExamples, two_hosts, open_book, Turn, Wins, placed, write, read_of, write_read, done, pointed_at, busy_registers}
 
 module _ (b : Behaviour) (m : b.Meaning) where
   -- both carried alone, who is told what, and the device after it
@@ -45,7 +45,7 @@ wins : (a c : TransferModel) (xs : List ℕ) (after : Registers) →
     Wins a c xs after
 wins a c xs after t d x y f g e h = turn register_file new_registers f g a c (done xs) None after unarmed armed e h t d (x f g) (y f g)
 
-strings : StringExamples
+pub strings : StringExamples
 strings =
     record {
       write_of_one = refl;
@@ -68,7 +68,7 @@ turns =
       more_over_fewer = wins (read_of 3) (read_of 2) (0 ∷ 0 ∷ 0 ∷ []) (pointed_at 3) refl refl (λ f g. refl) (λ f g. refl);
       equal_writes = λ f g e h.
           turn (busy_over register_file) (busy_registers 0 new_registers) f g (write (0x03 ∷ 0x12 ∷ [])) (write (0x03 ∷ 0x12 ∷ [])) (done []) (done [])
-          (busy_registers 1 (stored_at_3 4)) unarmed unarmed e h refl refl refl refl;
+          (busy_registers 1 (record { bytes = slice_set (replicate 16 0) 3 0x12; pointer = 4; awaits = false })) unarmed unarmed e h refl refl refl refl;
     }
 
 refusals : RefusedExamples
@@ -87,4 +87,4 @@ refusals =
     }
 
 pub worked_examples : WorkedExamples
-worked_examples = record { refusals = refusals; strings = strings; turns = turns; queue = record { joined = refl; taken = refl } }
+worked_examples = record { refusals = refusals; turns = turns; queue = record { joined = refl; taken = refl } }

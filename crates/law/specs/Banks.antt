@@ -1,5 +1,5 @@
 -- Parts of many makes side by side: one part and the rest. Assumes nothing.
-use Rattle.std.specs.Prelude.{Bool, false, ◌||◌, List, [], ◌∷◌}
+use Rattle.std.specs.Prelude.{List, [], ◌∷◌}
 
 -- something of each behaviour of a list
 abbrev pub Bank : {B : Type 1} → (B → Type 0) → List B → Type 0
@@ -15,8 +15,3 @@ each f (b ∷ bs) p = (f b p.0, each f bs p.1)
 abbrev pub listed : {B : Type 1} {F : B → Type 0} {X : Type 0} → ((b : B) → F b → X) → (bs : List B) → Bank F bs → List X
 listed f [] p = []
 listed f (b ∷ bs) p = f b p.0 ∷ listed f bs p.1
-
--- whether one of them answers with yes
-abbrev pub any_true : List Bool → Bool
-any_true [] = false
-any_true (v ∷ vs) = v || any_true vs

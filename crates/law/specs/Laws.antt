@@ -6,8 +6,8 @@ use Rattle.master.specs.declared.mark.Mark.{Mark}
 use Rattle.master.specs.declared.mark.Mark.TheVariants.{Quiet, Told, Lost}
 use Rattle.wire.specs.declared.wire.Event.{Event}
 use Rattle.wire.specs.declared.wire.Event.TheVariants.{Rise, Fall, Start, Stop, SteadyHigh, SteadyLow}
-use Rattle.law.specs.Banks.{Bank, each, listed, any_true}
-use Rattle.law.specs.Books.{unarmed, Entry, standing_of, Book, book_arm, book_tells, book_after, contests, least}
+use Rattle.law.specs.Banks.{Bank, each, listed}
+use Rattle.law.specs.Books.{unarmed, Entry, standing_of, any_true, Book, book_arm, book_tells, book_after, contests, least}
 use Rattle.law.specs.Buses.{BusModel, Holds, made, arm_at, levels_at, tick_at, told_at, is_at_rest}
 use Rattle.master.specs.Serving.{Served, served_armed, served_mark, served_pulls}
 use Rattle.law.specs.Carrying.{Placed, Carried}

@@ -3,10 +3,8 @@ use Rattle.std.specs.Prelude.{◌≡◌, ℕ, [], ◌∷◌, None}
 use Rattle.transfer.specs.declared.draft.Transfer.{Transfer}
 use Rattle.transfer.specs.Drafts.{TransferModel, transfer_model}
 use Rattle.transfer.specs.Legs.{writes}
-use Rattle.device.specs.declared.device.Device as device
 use Rattle.device.specs.declared.register_file.RegisterFile.{RegisterFile}
 use Rattle.device.specs.RegisterFiles.{registers, register_file, new_registers}
-use Rattle.host.specs.declared.host.Host as host
 use Rattle.host.specs.declared.list_host.ListHost.{ListHost}
 use Rattle.host.specs.ListHosts.{Listed, listed, list_host}
 use Rattle.exchange.specs.declared.bank.End.{End}
@@ -28,20 +26,16 @@ register_write byte = record { first = record { address = 80; body = writes (3 �
 abbrev pub Wants : ℕ → Listed → Type 0
 Wants byte m = (t : Transfer) × (transfer_model t ≡ register_write byte) × (m ≡ record { rest = t ∷ []; last = None })
 
--- the makes by their behaviours; what the register file answers to hold is open
-abbrev pub list_make : host.Ghosts ListHost
-list_make = record { behaviour = list_host; means = listed }
-
-abbrev pub registers_make : device.Ghosts RegisterFile
-registers_make = record { behaviour = register_file; means = registers; holds = λ _ _. Unit {0} }
+abbrev pub master_of : Master ListHost → Served list_host
+master_of m = served list_host listed m
 
 abbrev pub serving : ℕ → ℕ → Listed → Served list_host
 serving low high m = record { master = new_master transfers low high; meaning = m }
 
 abbrev pub pair_model : Bus (Master ListHost × (Master ListHost × End)) (Port RegisterFile × End) → BusModel (list_host ∷ list_host ∷ []) (register_file ∷ [])
 pair_model u =
-    bus_model (record { hosts = list_host ∷ list_host ∷ []; stand = λ m. (served list_make m.0, (served list_make m.1.0, tt)) })
-    (record { devices = register_file ∷ []; stand = λ p. (port_model registers_make p.0, tt) }) u
+    bus_model (list_host ∷ list_host ∷ []) (λ m. (master_of m.0, (master_of m.1.0, tt)))
+    (register_file ∷ []) (λ p. (port_model register_file registers p.0, tt)) u
 
 -- clock counts 1 and 1 for the first master, 2 and 1 for the second
 abbrev pub pair : Listed → Listed → BusModel (list_host ∷ list_host ∷ []) (register_file ∷ [])

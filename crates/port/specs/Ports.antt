@@ -3,7 +3,6 @@ use Rattle.std.specs.Prelude.{ℕ, suc, ◌-◌, ◌/◌, ◌%◌, Bool, true, f
 use Rattle.transfer.specs.declared.leg.Direction.{Direction}
 use Rattle.transfer.specs.declared.leg.Direction.TheVariants.{Write, Read}
 use Rattle.device.specs.Behaviours.{Behaviour}
-use Rattle.device.specs.declared.device.Device.{Ghosts}
 use Rattle.port.specs.declared.port.Mode.{Mode}
 use Rattle.port.specs.declared.port.Mode.TheVariants.{Out, Addressing, Writing, Acknowledging, Reading}
 use Rattle.port.specs.declared.port.Partial.{Partial}
@@ -101,10 +100,10 @@ module _ (b : Behaviour) where
   abbrev pub new_port : ℕ → b.Meaning → PortModel b
   new_port a m = record { address = a; meaning = m; owed = false; mode = Out; hold = 0 }
 
-  -- as at the making
-  abbrev pub port_new : PortModel b → PortModel b
-  port_new p = new_port p.address p.meaning
+-- as at the making
+abbrev pub port_new : (b : Behaviour) → PortModel b → PortModel b
+port_new b p = new_port b p.address p.meaning
 
 -- a port as the rules see it, its device by what that means
-abbrev pub port_model : {D : Type 0} → (device : Ghosts D) → Port D → PortModel device.behaviour
-port_model device p = record { address = p.address.number; meaning = device.means p.device; owed = p.owes_finish; mode = p.mode; hold = p.hold }
+abbrev pub port_model : (b : Behaviour) {D : Type 0} → (D → b.Meaning) → Port D → PortModel b
+port_model b means p = record { address = p.address.number; meaning = means p.device; owed = p.owes_finish; mode = p.mode; hold = p.hold }

@@ -5,8 +5,8 @@ use Rattle.device.specs.Behaviours.{Behaviour}
 use Rattle.host.specs.Behaviours.{HostBehaviour}
 use Rattle.master.specs.declared.mark.Mark.TheVariants.{Quiet, Lost}
 use Rattle.wire.specs.declared.wire.Signal.{Signal}
-use Rattle.law.specs.Banks.{Bank, each, listed, any_true}
-use Rattle.law.specs.Books.{Standing, unarmed, armed, is_armed, Entry, standing_of, wanted_if}
+use Rattle.law.specs.Banks.{Bank, each, listed}
+use Rattle.law.specs.Books.{any_true, Standing, unarmed, armed, is_armed, Entry, standing_of, wanted_if}
 use Rattle.law.specs.Buses.{Holds, tick_at, told_at, is_at_rest}
 use Rattle.master.specs.Serving.{Served, is_armed as arming_armed, served_armed, served_mark, served_pulls, mark_of}
 use Rattle.law.specs.Carrying.{Placed}

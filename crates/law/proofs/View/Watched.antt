@@ -6,8 +6,8 @@ use Rattle.host.specs.Behaviours.{HostBehaviour}
 use Rattle.wire.specs.declared.wire.Event.{Event}
 use Rattle.wire.specs.declared.wire.Event.TheVariants.{Rise, Fall, Start, Stop, SteadyHigh, SteadyLow}
 use Rattle.wire.specs.declared.wire.Signal.{Signal}
-use Rattle.law.specs.Banks.{Bank, each, listed, any_true}
-use Rattle.law.specs.Books.{Entry, enters, standing_of, Book, book_after}
+use Rattle.law.specs.Banks.{Bank, each, listed}
+use Rattle.law.specs.Books.{any_true, Entry, enters, standing_of, Book, book_after}
 use Rattle.master.specs.Serving.{Served, served_mark, served_told, mark_of, outcome_told}
 use Rattle.law.specs.Laws.{Watch, watching, sees, starts_again, is_lost, marked_too, watched}
 use Rattle.master.specs.Masters.{VerdictModel, quiet, lost, told, master_step}

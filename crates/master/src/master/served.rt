@@ -13,7 +13,7 @@ use wire::{Pulls, Signal};
 
 impl<H: Host> Master<H> {
     pub fn new(clock: ClockPair, host: H) -> Master<H>
-        ensures { served H.Host result ≡ record { master = new_master transfers clock.low clock.high; meaning = H.Host.means host } }
+        ensures { served H.Host.behaviour H.Host.means result ≡ record { master = new_master transfers clock.low clock.high; meaning = H.Host.means host } }
     {
         Master {
             state: MasterState::new(clock),
@@ -30,7 +30,7 @@ impl<H: Host> Master<H> {
     }
 
     pub fn pulls(&self) -> Pulls
-        ensures { result ≡ served_pulls _ (served H.Host self.now) }
+        ensures { result ≡ served_pulls H.Host.behaviour (served H.Host.behaviour H.Host.means self.now) }
     {
         // by line: what a tick wrote to one line is then read as it was written
         Pulls {
@@ -40,7 +40,7 @@ impl<H: Host> Master<H> {
     }
 
     pub fn is_armed(&self) -> bool
-        ensures { result ≡ served_armed _ (served H.Host self.now) }
+        ensures { result ≡ served_armed H.Host.behaviour (served H.Host.behaviour H.Host.means self.now) }
     {
         match self.state.arming {
             Arming::Idle => false,
@@ -49,13 +49,13 @@ impl<H: Host> Master<H> {
     }
 
     pub fn reset(&mut self)
-        ensures { served H.Host self.new ≡ served_new _ (served H.Host self.old) }
+        ensures { served H.Host.behaviour H.Host.means self.new ≡ served_new H.Host.behaviour (served H.Host.behaviour H.Host.means self.old) }
     {
         self.state = MasterState::new(self.state.clock);
     }
 
     pub fn arm(&mut self) -> Result<(), Refusal>
-        ensures { (answer (λ u. u) result, served H.Host self.new) ≡ served_arm _ (served H.Host self.old) }
+        ensures { (answer (λ u. u) result, served H.Host.behaviour H.Host.means self.new) ≡ served_arm H.Host.behaviour (served H.Host.behaviour H.Host.means self.old) }
     {
         match self.state.arming {
             Arming::Armed(_) => Err(Refusal::ArmedAlready),
@@ -71,8 +71,8 @@ impl<H: Host> Master<H> {
     }
 
     pub fn step(&mut self, signal: Signal) -> Mark
-        ensures mark { result ≡ served_mark _ signal (served H.Host self.old) }
-        ensures after { served H.Host self.new ≡ served_step _ signal (served H.Host self.old) }
+        ensures mark { result ≡ served_mark H.Host.behaviour signal (served H.Host.behaviour H.Host.means self.old) }
+        ensures after { served H.Host.behaviour H.Host.means self.new ≡ served_step H.Host.behaviour signal (served H.Host.behaviour H.Host.means self.old) }
     {
         match self.state.step(signal) {
             Verdict::Quiet => Mark::Quiet,

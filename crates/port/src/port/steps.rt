@@ -30,7 +30,7 @@ impl Mode {
 
 impl<D: Device> Port<D> {
     pub fn new(address: Address, device: D) -> Port<D>
-        ensures { port_model D.Device result ≡ new_port D.Device.behaviour address.number (D.Device.means device) }
+        ensures { port_model D.Device.behaviour D.Device.means result ≡ new_port D.Device.behaviour address.number (D.Device.means device) }
     {
         Port {
             address,
@@ -56,7 +56,7 @@ impl<D: Device> Port<D> {
     }
 
     pub fn reset(&mut self)
-        ensures { port_model D.Device self.new ≡ port_new _ (port_model D.Device self.old) }
+        ensures { port_model D.Device.behaviour D.Device.means self.new ≡ port_new D.Device.behaviour (port_model D.Device.behaviour D.Device.means self.old) }
     {
         self.mode = Mode::Out;
         self.owes_finish = false;
@@ -64,7 +64,7 @@ impl<D: Device> Port<D> {
     }
 
     pub fn pulls(&self) -> Pulls
-        ensures { result ≡ port_pulls _ (port_model D.Device self.now) }
+        ensures { result ≡ port_pulls D.Device.behaviour (port_model D.Device.behaviour D.Device.means self.now) }
     {
         Pulls {
             scl: self.hold > 0,
@@ -73,7 +73,7 @@ impl<D: Device> Port<D> {
     }
 
     pub fn step(&mut self, signal: Signal)
-        ensures { (h : ℕ) × (h < 256) × (port_model D.Device self.new ≡ port_step _ (port_model D.Device self.old) signal h) }
+        ensures { (h : ℕ) × (h < 256) × (port_model D.Device.behaviour D.Device.means self.new ≡ port_step D.Device.behaviour (port_model D.Device.behaviour D.Device.means self.old) signal h) }
     {
         match (self.mode, signal.event, signal.bit) {
             (_, Event::Start, _) => self.settle(Mode::Addressing(Partial::none())),
@@ -93,7 +93,7 @@ impl<D: Device> Port<D> {
 
     // A device that said yes to select is finished.
     fn settle(&mut self, mode: Mode)
-        ensures { port_model D.Device self.new ≡ settles _ (port_model D.Device self.old) mode }
+        ensures { port_model D.Device.behaviour D.Device.means self.new ≡ settles D.Device.behaviour (port_model D.Device.behaviour D.Device.means self.old) mode }
     {
         if self.owes_finish {
             self.device.finish();
@@ -105,7 +105,7 @@ impl<D: Device> Port<D> {
     // At the eighth bit of the address byte a port that it calls selects its device.
     fn address_bit(&mut self, byte: Partial, bit: bool)
         requires { self.old.mode ≡ Addressing byte }
-        ensures { (h : ℕ) × (h < 256) × (port_model D.Device self.new ≡ counts _ (port_model D.Device self.old) (Addressing byte) bit h) }
+        ensures { (h : ℕ) × (h < 256) × (port_model D.Device.behaviour D.Device.means self.new ≡ counts D.Device.behaviour (port_model D.Device.behaviour D.Device.means self.old) (Addressing byte) bit h) }
     {
         let value = shift_in(byte.value, bit);
         if byte.bits < 7 {
@@ -133,7 +133,7 @@ impl<D: Device> Port<D> {
     // At the eighth bit of a written byte it is put.
     fn write_bit(&mut self, byte: Partial, bit: bool)
         requires { self.old.mode ≡ Writing byte }
-        ensures { (h : ℕ) × (h < 256) × (port_model D.Device self.new ≡ counts _ (port_model D.Device self.old) (Writing byte) bit h) }
+        ensures { (h : ℕ) × (h < 256) × (port_model D.Device.behaviour D.Device.means self.new ≡ counts D.Device.behaviour (port_model D.Device.behaviour D.Device.means self.old) (Writing byte) bit h) }
     {
         let value = shift_in(byte.value, bit);
         if byte.bits < 7 {
@@ -150,7 +150,7 @@ impl<D: Device> Port<D> {
 
     fn read_bit(&mut self, byte: Partial, bit: bool)
         requires { self.old.mode ≡ Reading byte }
-        ensures { (h : ℕ) × (h < 256) × (port_model D.Device self.new ≡ counts _ (port_model D.Device self.old) (Reading byte) bit h) }
+        ensures { (h : ℕ) × (h < 256) × (port_model D.Device.behaviour D.Device.means self.new ≡ counts D.Device.behaviour (port_model D.Device.behaviour D.Device.means self.old) (Reading byte) bit h) }
     {
         if byte.bits < 8 {
             self.mode = Mode::Reading(Partial {
@@ -164,7 +164,7 @@ impl<D: Device> Port<D> {
 
     // At the ninth bit of a read an N puts the port out, and at an A it takes a byte and then reads hold.
     fn read_on(&mut self, nack: bool)
-        ensures { (h : ℕ) × (h < 256) × (port_model D.Device self.new ≡ reads_on _ (port_model D.Device self.old) nack (D.Device.behaviour.take (D.Device.means self.old.device)) h) }
+        ensures { (h : ℕ) × (h < 256) × (port_model D.Device.behaviour D.Device.means self.new ≡ reads_on D.Device.behaviour (port_model D.Device.behaviour D.Device.means self.old) nack (D.Device.behaviour.take (D.Device.means self.old.device)) h) }
     {
         if nack {
             self.mode = Mode::Out;
