@@ -1,7 +1,7 @@
 // What one tick shows of the wire and of the masters.
 use master::Mark;
 
-mod text;
+mod lines;
 
 // The ninth bit of a byte.
 #[derive(Clone, Copy)]

@@ -3,8 +3,8 @@ use Rattle.std.proofs.lemmas.Slice.{pushed}
 use Rattle.master.specs.declared.mark.Mark.TheVariants.{Quiet}
 use Rattle.listing.specs.Lines.{is_told, told_item}
 use Rattle.listing.proofs.Masters.{passes, fails, through, not_told}
-use Rattle.listing.proofs.marks.text.told_text.Goals as goal
-use Rattle.listing.proofs.marks.text.told_text.Goals.{in-Told+in_ok-told_item+in_ok-push_str, in_default}
+use Rattle.listing.proofs.marks.lines.told_text.Goals as goal
+use Rattle.listing.proofs.marks.lines.told_text.Goals.{in-Told+in_ok-told_item+in_ok-push_str, in_default}
 
 pub loop-i-preserved : goal.loop-i-preserved
 loop-i-preserved c =

@@ -3,8 +3,8 @@ use Rattle.std.proofs.lemmas.Slice.{pushed}
 use Rattle.master.specs.declared.mark.Mark.TheVariants.{Quiet}
 use Rattle.listing.specs.Lines.{is_lost, loser_line}
 use Rattle.listing.proofs.Masters.{passes, fails, through, not_lost}
-use Rattle.listing.proofs.marks.text.losers_text.Goals as goal
-use Rattle.listing.proofs.marks.text.losers_text.Goals.{in-Lost+in_ok-loser_line+in_ok-push_str, in_default}
+use Rattle.listing.proofs.marks.lines.losers_text.Goals as goal
+use Rattle.listing.proofs.marks.lines.losers_text.Goals.{in-Lost+in_ok-loser_line+in_ok-push_str, in_default}
 
 pub loop-i-preserved : goal.loop-i-preserved
 loop-i-preserved c =
