@@ -6,3 +6,7 @@ mod bus;
 
 pub use bank::{End, Masters, Ports};
 pub use bus::{Bus, Run};
+pub use law::{Tick, worked_examples};
+pub use master::{Mark, Master};
+pub use port::Port;
+pub use wire::{Event, Latch, Levels, Pulls, Signal};

@@ -6,3 +6,4 @@ mod marks;
 
 pub use listing::Listing;
 pub use marks::{Acknowledge, ByteMark, Marks, WireMark};
+pub use text::{bytes_text, decimal, hex, outcome_text};
