@@ -11,7 +11,7 @@ returns g c =
     let u = bus_model hs g.M.Masters.stand ds g.P.Ports.stand c.args.self.now in
     let levels_is : c.levels-levels.result ≡ levels_at hs ds u = levels_are _ _ _ _ _ _ c.levels-levels.ensures c.or.ensures c.pulls.ensures c.pulls-2.ensures in (
       c.step-2.ensures.0,
-      tick_is hs ds u c.levels-levels.result c.step-signal.result c.step-signal.new.self _ c.step.new.marks _ c.step-2.ensures.0
+      tick_is hs ds u c.levels-levels.result c.step-signal.result c.step-signal.new.self _ _ _ c.step-2.ensures.0
           levels_is c.step-signal.ensures.answer c.step-signal.ensures.after
           c.step.ensures.after c.step.ensures.marks c.step-2.ensures.1,
     )
