@@ -1,7 +1,19 @@
 -- The busy layer: after a selection in which a put got yes, the next selects answer no without asking below. Assumes nothing.
-use Rattle.std.specs.Prelude.{ℕ, ◌-◌, Bool, false, cond, ◌&&◌, ◌||◌, nat_lt}
+use Rattle.std.specs.Prelude.{ℕ, ◌-◌, Bool, true, false, cond, ◌&&◌, ◌||◌, nat_lt}
 use Rattle.device.specs.declared.busy.Busy.{Busy}
+use Rattle.device.specs.declared.busy.Selection.{Selection}
+use Rattle.device.specs.declared.busy.Selection.TheVariants.{Closed, Open, Written}
 use Rattle.device.specs.Behaviours.{Behaviour}
+
+abbrev pub is_inside : Selection → Bool
+is_inside Closed = false
+is_inside Open = true
+is_inside Written = true
+
+abbrev pub has_written : Selection → Bool
+has_written Closed = false
+has_written Open = false
+has_written Written = true
 
 module _ (b : Behaviour) where
   pub record Busied : Type 0 where
@@ -40,4 +52,4 @@ module _ (b : Behaviour) where
   }
 
   abbrev pub busied : {D : Type 0} → (D → b.Meaning) → Busy D → Busied
-  busied means l = record { number = l.number; left = l.left; inside = l.in_selection; wrote = l.wrote; below = means l.device }
+  busied means l = record { number = l.number; left = l.left; inside = is_inside l.selection; wrote = has_written l.selection; below = means l.device }

@@ -5,16 +5,22 @@ ghost use Rattle.device.specs.BusyLayers.{busied, busy_over};
 use crate::device::Device;
 use transfer::Direction;
 
+// From a select that was answered with yes to the next finish.
+#[derive(Clone, Copy, PartialEq, Eq, Debug)]
+pub enum Selection {
+    Closed,
+    Open,
+    // a put got yes in it
+    Written,
+}
+
 #[derive(Drop)]
 pub struct Busy<D> {
     // how many selects it then refuses
     number: u8,
     // how many of them are to come
     left: u8,
-    // between a select that was answered with yes and the next finish
-    in_selection: bool,
-    // whether a put got yes in this selection
-    wrote: bool,
+    selection: Selection,
     device: D,
 }
 
@@ -25,8 +31,7 @@ impl<D: Device> Busy<D> {
         Busy {
             number,
             left: 0,
-            in_selection: false,
-            wrote: false,
+            selection: Selection::Closed,
             device,
         }
     }
@@ -38,8 +43,7 @@ impl<D: Device> Busy<D> {
         let Busy {
             number: _,
             left: _,
-            in_selection: _,
-            wrote: _,
+            selection: _,
             device,
         } = self;
         device
@@ -59,13 +63,17 @@ impl<D: Device> Device for Busy<D> {
             return false;
         }
         let yes = self.device.select(direction);
-        self.in_selection = self.in_selection || yes;
+        if yes && self.selection == Selection::Closed {
+            self.selection = Selection::Open;
+        }
         yes
     }
 
     fn put(&mut self, byte: u8) -> bool {
         let yes = self.device.put(byte);
-        self.wrote = self.wrote || (self.in_selection && yes);
+        if yes && self.selection == Selection::Open {
+            self.selection = Selection::Written;
+        }
         yes
     }
 
@@ -75,11 +83,10 @@ impl<D: Device> Device for Busy<D> {
 
     fn finish(&mut self) {
         self.device.finish();
-        if self.wrote {
+        if self.selection == Selection::Written {
             self.left = self.number;
         }
-        self.in_selection = false;
-        self.wrote = false;
+        self.selection = Selection::Closed;
     }
 
     fn hold(&mut self) -> u8 {

@@ -25,9 +25,7 @@ impl<T: Copy> Fifo<T> {
         if items.len() > 8 {
             return Err(Refusal::LengthOutOfRange);
         }
-        for (i, item) in items.iter().enumerate() {
-            self.slots[i] = *item;
-        }
+        self.slots[..items.len()].copy_from_slice(items);
         self.count = items.len();
         self.place = 0;
         Ok(())
@@ -36,11 +34,8 @@ impl<T: Copy> Fifo<T> {
     pub fn first(&self) -> Option<T>
         ensures { result ≡ first_of (left self.now) }
     {
-        if self.place < self.count {
-            Some(self.slots[self.place])
-        } else {
-            None
-        }
+        let listed = &self.slots[..self.count];
+        listed[self.place..].first().copied()
     }
 
     // Goes on to the next item, if one is left.

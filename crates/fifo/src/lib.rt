@@ -5,7 +5,8 @@ ghost use Rattle.std.specs.Prelude.{◌≤◌};
 
 mod calls;
 
-// The first `count` of `slots` are the list, and those from `place` on are left.
+// The first `count` of `slots` are the list, and those from `place` on are left. A buffer with its length, since a sensor
+// head has no heap, and the kit's vectors of fixed capacity ask for a default of their items.
 #[derive(Drop)]
 pub struct Fifo<T> {
     slots: [T; 8],

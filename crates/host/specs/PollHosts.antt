@@ -4,7 +4,8 @@ use Rattle.std.specs.Option.{option_map}
 use Rattle.transfer.specs.declared.draft.Transfer.{Transfer}
 use Rattle.transfer.specs.declared.outcome.OutcomeKind.{OutcomeKind}
 use Rattle.transfer.specs.declared.outcome.OutcomeKind.TheVariants.{Done, NoAnswer, Refused}
-use Rattle.transfer.specs.Outcomes.{OutcomeModel, outcome_model, last_byte}
+use Rattle.transfer.specs.Bytes.{last_byte}
+use Rattle.transfer.specs.Outcomes.{OutcomeModel, outcome_model}
 use Rattle.host.specs.declared.poll_host.PollHost.{PollHost}
 use Rattle.host.specs.Behaviours.{HostBehaviour}
 

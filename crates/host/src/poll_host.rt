@@ -9,6 +9,7 @@ use transfer::{Outcome, OutcomeKind, Transfer};
 
 #[derive(Drop)]
 pub struct PollHost {
+    // beside its flag, since it stays a part of what the host means once the mask is met
     transfer: Transfer,
     mask: u8,
     met: bool,
@@ -37,10 +38,7 @@ impl PollHost {
     fn is_met_by(&self, outcome: &Outcome) -> bool
         ensures { result ≡ is_met self.now.mask (outcome_model outcome.now) }
     {
-        match outcome.kind {
-            OutcomeKind::Done => outcome.read.last_or_zero() & self.mask != 0,
-            _ => false,
-        }
+        outcome.kind == OutcomeKind::Done && outcome.read.last_or_zero() & self.mask != 0
     }
 }
 

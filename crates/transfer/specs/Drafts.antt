@@ -9,11 +9,12 @@ pub record TransferModel : Type 0 where
   pub first : LegModel
   pub second : Option LegModel
 
-abbrev pub draft_model : Draft → TransferModel
-draft_model d = record { first = leg_model d.first; second = option_map leg_model d.second }
-
 abbrev pub transfer_model : Transfer → TransferModel
 transfer_model t = record { first = leg_model t.first; second = option_map leg_model t.second }
+
+-- a draft by the transfer that it would be sealed into
+abbrev pub draft_model : Draft → TransferModel
+draft_model d = transfer_model d.transfer
 
 abbrev pub begun : ℕ → TransferModel
 begun a = record { first = empty_write a; second = None }

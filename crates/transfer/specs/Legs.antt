@@ -1,10 +1,11 @@
 -- A leg: to which address, and the bytes that it writes or how many it reads. Assumes nothing.
-use Rattle.std.specs.Prelude.{ℕ, List, [], length, take}
+use Rattle.std.specs.Prelude.{ℕ, Bool, true, false, List, [], length}
 use Rattle.transfer.specs.declared.leg.Body.{Body}
 use Rattle.transfer.specs.declared.leg.Body.TheVariants.{Write, Read}
 use Rattle.transfer.specs.declared.leg.Direction.{Direction}
 use Rattle.transfer.specs.declared.leg.Direction.TheVariants as direction
 use Rattle.transfer.specs.declared.leg.Leg.{Leg}
+use Rattle.transfer.specs.Bytes.{bytes_in}
 
 pub data BodyModel : Type 0 where
   writes : List ℕ → BodyModel
@@ -15,7 +16,7 @@ pub record LegModel : Type 0 where
   pub body : BodyModel
 
 abbrev pub body_model : Body → BodyModel
-body_model (Write w) = writes (take w.len w.bytes)
+body_model (Write w) = writes (bytes_in w)
 body_model (Read r) = reads r.count
 
 abbrev pub leg_model : Leg → LegModel
@@ -33,3 +34,8 @@ body_direction (reads n) = direction.Read
 -- how every leg begins
 abbrev pub empty_write : ℕ → LegModel
 empty_write a = record { address = a; body = writes [] }
+
+-- the bit after an address calls for a read where it is 1
+abbrev pub direction_of : Bool → Direction
+direction_of true = direction.Read
+direction_of false = direction.Write

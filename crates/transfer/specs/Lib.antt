@@ -2,6 +2,7 @@ pub mod Refusals
 pub mod Addresses
 pub mod Clocks
 pub mod Octets
+pub mod Bytes
 pub mod Legs
 pub mod Drafts
 pub mod Outcomes

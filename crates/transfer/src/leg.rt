@@ -1,25 +1,15 @@
 // One leg of a transfer: an address, and the bytes to write to it or how many to read from it.
-ghost use Rattle.std.specs.Prelude.{◌≡◌, ◌≤◌, length};
-ghost use Rattle.transfer.specs.Octets.{Octets};
+ghost use Rattle.std.specs.Prelude.{◌≤◌};
 
 use crate::address::Address;
+use crate::bytes::WriteBytes;
 
 mod calls;
 
-#[derive(Clone, Copy)]
+#[derive(Clone, Copy, PartialEq, Eq, Debug)]
 pub enum Direction {
     Write,
     Read,
-}
-
-// The first `len` of `bytes` are written.
-#[derive(Clone, Copy)]
-pub struct WriteBytes {
-    pub bytes: [u8; 16],
-    pub len: u8,
-    ghost fits: { len ≤ 16 },
-    ghost room: { length bytes ≡ 16 },
-    ghost octets: { Octets bytes },
 }
 
 #[derive(Clone, Copy)]

@@ -2,6 +2,7 @@
 #![tactic(auto)]
 
 mod address;
+mod bytes;
 mod clock;
 mod draft;
 mod leg;
@@ -9,8 +10,9 @@ mod outcome;
 mod refusal;
 
 pub use address::Address;
+pub use bytes::{Bytes, ReadBytes, WriteBytes};
 pub use clock::ClockPair;
 pub use draft::{Draft, Transfer};
-pub use leg::{Body, Direction, Leg, ReadCount, WriteBytes};
-pub use outcome::{BytePlace, LegPlace, Outcome, OutcomeKind, ReadBytes};
+pub use leg::{Body, Direction, Leg, ReadCount};
+pub use outcome::{BytePlace, LegPlace, Outcome, OutcomeKind};
 pub use refusal::Refusal;

@@ -1,7 +1,5 @@
 // What a host is told of its transfer.
-ghost use Rattle.std.specs.Prelude.{◌≡◌, ◌≤◌, length};
-
-mod bytes;
+use crate::bytes::ReadBytes;
 
 // Legs and bytes count from 0.
 #[derive(Clone, Copy, PartialEq, Eq, Debug)]
@@ -20,15 +18,6 @@ pub enum OutcomeKind {
     Done,
     NoAnswer(LegPlace),
     Refused(BytePlace),
-}
-
-// The first `len` of `bytes` were read; two legs of 16 bytes fit.
-#[derive(Clone, Copy)]
-pub struct ReadBytes {
-    pub bytes: [u8; 32],
-    pub len: u8,
-    ghost fits: { len ≤ 32 },
-    ghost room: { length bytes ≡ 32 },
 }
 
 #[derive(Clone, Copy)]

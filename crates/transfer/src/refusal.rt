@@ -4,29 +4,20 @@ ghost use Rattle.transfer.specs.Refusals.{number};
 
 #[derive(Clone, Copy, PartialEq, Eq, Debug)]
 pub enum Refusal {
-    AddressOutOfRange,
-    ClockOutOfRange,
-    TwoLegsAlready,
-    LengthOutOfRange,
-    NoSuchMaster,
-    ArmedAlready,
-    NothingWanted,
-    TooManyTicks,
+    AddressOutOfRange = 1,
+    ClockOutOfRange = 2,
+    TwoLegsAlready = 3,
+    LengthOutOfRange = 4,
+    NoSuchMaster = 5,
+    ArmedAlready = 6,
+    NothingWanted = 7,
+    TooManyTicks = 8,
 }
 
 impl Refusal {
     pub fn number(self) -> u8
         ensures { result ≡ number self }
     {
-        match self {
-            Refusal::AddressOutOfRange => 1,
-            Refusal::ClockOutOfRange => 2,
-            Refusal::TwoLegsAlready => 3,
-            Refusal::LengthOutOfRange => 4,
-            Refusal::NoSuchMaster => 5,
-            Refusal::ArmedAlready => 6,
-            Refusal::NothingWanted => 7,
-            Refusal::TooManyTicks => 8,
-        }
+        self as u8
     }
 }

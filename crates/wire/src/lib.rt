@@ -4,5 +4,5 @@
 mod octet;
 mod wire;
 
-pub use octet::{digit_at, shift_in};
+pub use octet::{Partial, digit_at, shift_in};
 pub use wire::{Event, Latch, Levels, Pulls, Signal, Wire};

@@ -7,7 +7,8 @@ ghost use Rattle.transfer.specs.Refusals.{answer};
 
 use super::{Draft, Transfer};
 use crate::address::Address;
-use crate::leg::{Body, Leg, ReadCount, WriteBytes};
+use crate::bytes::WriteBytes;
+use crate::leg::{Body, Leg, ReadCount};
 use crate::refusal::Refusal;
 
 impl Draft {
@@ -16,21 +17,20 @@ impl Draft {
         ensures { draft_model result ≡ begun address.number }
     {
         Draft {
-            first: Leg::empty_write(address),
-            second: None,
+            transfer: Transfer {
+                first: Leg::empty_write(address),
+                second: None,
+            },
         }
     }
 
     // The last leg gets this body.
     fn set_body(&mut self, body: Body)
-        ensures { draft_model self.new ≡ last_set (body_model body) (leg_model self.old.first) (option_map leg_model self.old.second) }
+        ensures { draft_model self.new ≡ last_set (body_model body) (leg_model self.old.transfer.first) (option_map leg_model self.old.transfer.second) }
     {
-        match self.second {
-            None => self.first.body = body,
-            Some(leg) => self.second = Some(Leg {
-                address: leg.address,
-                body,
-            }),
+        match &mut self.transfer.second {
+            Some(leg) => leg.body = body,
+            None => self.transfer.first.body = body,
         }
     }
 
@@ -60,20 +60,18 @@ impl Draft {
     pub fn second_leg(&mut self, address: Address) -> Result<(), Refusal>
         ensures { (answer (λ u. u) result, draft_model self.new) ≡ second_begun address.number (draft_model self.old) }
     {
-        if self.second.is_some() {
+        if self.transfer.second.is_some() {
             return Err(Refusal::TwoLegsAlready);
         }
-        self.second = Some(Leg::empty_write(address));
+        self.transfer.second = Some(Leg::empty_write(address));
         Ok(())
     }
 
     pub fn seal(self) -> Transfer
         ensures { transfer_model result ≡ draft_model self }
     {
-        Transfer {
-            first: self.first,
-            second: self.second,
-        }
+        let Draft { transfer } = self;
+        transfer
     }
 }
 

@@ -1,22 +1,20 @@
 // How a leg is made and what is asked of it.
-ghost use Rattle.std.specs.Prelude.{◌≡◌, ◌≤◌, length, take};
-ghost use Rattle.transfer.specs.Legs.{body_model, leg_model, empty_write, body_size, body_direction};
+ghost use Rattle.std.specs.Prelude.{◌≡◌};
+ghost use Rattle.transfer.specs.Legs.{body_model, leg_model, empty_write, body_size, body_direction, direction_of};
 
-use super::{Body, Direction, Leg, WriteBytes};
+use super::{Body, Direction, Leg};
 use crate::address::Address;
+use crate::bytes::WriteBytes;
 
-impl WriteBytes {
-    pub(crate) fn copy_of(source: &[u8]) -> WriteBytes
-        requires { length source.now ≤ 16 }
-        ensures { take result.len result.bytes ≡ source.now }
-    {
-        let mut bytes = [0; 16];
-        for (i, byte) in source.iter().enumerate() {
-            bytes[i] = *byte;
-        }
-        WriteBytes {
-            bytes,
-            len: source.len() as u8,
+impl From<bool> for Direction {
+    ghost from_gives = { λ bit direction. direction ≡ direction_of bit };
+
+    // The bit after an address.
+    fn from(bit: bool) -> Direction {
+        if bit {
+            Direction::Read
+        } else {
+            Direction::Write
         }
     }
 }
@@ -27,7 +25,7 @@ impl Leg {
     {
         Leg {
             address,
-            body: Body::Write(WriteBytes::copy_of(&[])),
+            body: Body::Write(WriteBytes::new()),
         }
     }
 
@@ -45,7 +43,7 @@ impl Leg {
         ensures { result ≡ body_size (body_model self.now.body) }
     {
         match self.body {
-            Body::Write(write) => write.len,
+            Body::Write(write) => write.len as u8,
             Body::Read(read) => read.count,
         }
     }
