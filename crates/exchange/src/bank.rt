@@ -105,7 +105,7 @@ impl Ports for End {
 impl<H: Host, B: Masters> Masters for (Master<H>, B) {
     ghost hosts = { H.Host.behaviour ∷ B.Masters.hosts };
 
-    ghost stand = { λ p. (served H.Host.behaviour H.Host.means p.0, B.Masters.stand p.1) };
+    ghost stand = { λ p. (served H.Host p.0, B.Masters.stand p.1) };
 
     ghost clocked = { Prim.search rules };
 
@@ -144,7 +144,7 @@ impl<H: Host, B: Masters> Masters for (Master<H>, B) {
 impl<D: Device, B: Ports> Ports for (Port<D>, B) {
     ghost devices = { D.Device.behaviour ∷ B.Ports.devices };
 
-    ghost stand = { λ p. (port_model D.Device.behaviour D.Device.means p.0, B.Ports.stand p.1) };
+    ghost stand = { λ p. (port_model D.Device p.0, B.Ports.stand p.1) };
 
     fn pulls(&self) -> Pulls {
         self.0.pulls().or(self.1.pulls())

@@ -5,7 +5,8 @@ use Rattle.transfer.specs.declared.outcome.OutcomeKind.{OutcomeKind}
 use Rattle.transfer.specs.declared.outcome.OutcomeKind.TheVariants.{Done, NoAnswer, Refused}
 use Rattle.transfer.specs.Drafts.{TransferModel}
 use Rattle.transfer.specs.Legs.{BodyModel, writes, reads, LegModel, leg_model, body_size}
-use Rattle.transfer.specs.Outcomes.{OutcomeModel, read_bytes}
+use Rattle.transfer.specs.Bytes.{bytes_in}
+use Rattle.transfer.specs.Outcomes.{OutcomeModel}
 use Rattle.master.specs.declared.cursor.At.{At}
 use Rattle.master.specs.declared.cursor.At.TheVariants.{InLeg, Restart, End}
 use Rattle.master.specs.declared.cursor.Cursor.{Cursor}
@@ -131,4 +132,4 @@ play_model Restart c = again (leg_model c.leg)
 play_model End c = done
 
 abbrev pub cursor_model : Cursor → CursorModel
-cursor_model c = at (play_model c.at c) (record { leg = leg_number c.rest; bytes = read_bytes c.read; value = c.value; kind = c.kind })
+cursor_model c = at (play_model c.at c) (record { leg = leg_number c.rest; bytes = bytes_in c.read; value = c.value; kind = c.kind })

@@ -1,10 +1,9 @@
 -- One master after one event: the rules of a contender. Assumes nothing.
 use Rattle.std.specs.Prelude.{ℕ, ◌-◌, Bool, true, false, cond, Some, None, Ok, Err, Option, Result, ◌==◌, nat_lt}
 use Rattle.std.specs.Option.{unwrap_or}
+use Rattle.transfer.specs.declared.draft.Transfer.{Transfer}
 use Rattle.transfer.specs.Drafts.{transfer_model}
 use Rattle.transfer.specs.Outcomes.{outcome_model}
-use Rattle.master.specs.declared.master.Arming.{Arming}
-use Rattle.master.specs.declared.master.Arming.TheVariants.{Idle, Armed}
 use Rattle.master.specs.declared.master.MasterState.{MasterState}
 use Rattle.master.specs.declared.master.Stage.{Stage}
 use Rattle.master.specs.declared.master.Stage.TheVariants.{Waiting, Opening, Showing, Ending}
@@ -135,22 +134,22 @@ module _ (W : Script) where
   abbrev pub arm_master : MasterModel → Option W.Task → Result (Unit {0}) ℕ × MasterModel
   arm_master m want = arms m m.arming want
 
-abbrev pub arming_model : Arming → ArmingModel transfers
-arming_model Idle = unarmed
-arming_model (Armed t) = armed (transfer_model t)
+abbrev pub arming_model : Option Transfer → ArmingModel transfers
+arming_model None = unarmed
+arming_model (Some t) = armed (transfer_model t)
 
-abbrev pub stage_model : Stage → CursorModel → StageModel transfers
-stage_model Waiting c = waiting
-stage_model Opening c = opening c
-stage_model (Showing s) c = showing s c
-stage_model Ending c = ending c
+abbrev pub stage_model : Stage → StageModel transfers
+stage_model Waiting = waiting
+stage_model (Opening c) = opening (cursor_model c)
+stage_model (Showing s c) = showing s (cursor_model c)
+stage_model (Ending c) = ending (cursor_model c)
 
 abbrev pub master_model : MasterState → MasterModel transfers
 master_model m = record {
   low = m.clock.low;
   high = m.clock.high;
-  arming = arming_model m.arming;
-  stage = stage_model m.stage (cursor_model m.cursor);
+  arming = arming_model m.armed;
+  stage = stage_model m.stage;
   count = m.count;
   pulls = m.pulls;
 }

@@ -4,6 +4,7 @@ use Rattle.std.specs.Option.{option_map}
 use Rattle.transfer.specs.Drafts.{transfer_model}
 use Rattle.transfer.specs.Outcomes.{OutcomeModel}
 use Rattle.host.specs.Behaviours.{HostBehaviour}
+use Rattle.host.specs.declared.host.Host.{Ghosts}
 use Rattle.master.specs.declared.mark.Mark.{Mark}
 use Rattle.master.specs.declared.mark.Mark.TheVariants.{Quiet, Told, Lost}
 use Rattle.master.specs.declared.master.Master.{Master}
@@ -64,5 +65,5 @@ module _ (h : HostBehaviour) where
   served_arm x = with_master x (arm_master transfers x.master (option_map transfer_model (h.want x.meaning)))
 
 -- a master as the rules see it, its host by what that means
-abbrev pub served : (h : HostBehaviour) {H : Type 0} → (H → h.Meaning) → Master H → Served h
-served h means m = record { master = master_model m.state; meaning = means m.host }
+abbrev pub served : {H : Type 0} → (host : Ghosts H) → Master H → Served host.behaviour
+served host m = record { master = master_model m.state; meaning = host.means m.host }

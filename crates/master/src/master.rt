@@ -7,21 +7,16 @@ use wire::Pulls;
 mod served;
 mod steps;
 
-#[derive(Clone, Copy)]
-pub enum Arming {
-    Idle,
-    Armed(Transfer),
-}
-
+// Where a master stands in a turn; a contender is somewhere in its transfer.
 #[derive(Clone, Copy)]
 pub enum Stage {
     // no contender, or lost
     Waiting,
     // from the pull that makes the start to the first fall
-    Opening,
-    Showing(Symbol),
+    Opening(Cursor),
+    Showing(Symbol, Cursor),
     // SDA was let go for the stop in the last tick
-    Ending,
+    Ending(Cursor),
 }
 
 // What a tick makes of a master.
@@ -35,12 +30,11 @@ pub enum Verdict {
 #[derive(Drop)]
 pub struct MasterState {
     clock: ClockPair,
-    arming: Arming,
+    // what it is armed with
+    armed: Option<Transfer>,
     stage: Stage,
     count: u8,
     pulls: Pulls,
-    // where a contender is in its transfer; while the master waits it says nothing
-    cursor: Cursor,
 }
 
 #[derive(Drop)]

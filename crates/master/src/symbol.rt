@@ -11,13 +11,15 @@ pub enum Symbol {
     Stop,
 }
 
-impl Symbol {
-    pub(crate) fn of_bit(bit: bool) -> Symbol
-        ensures { result ≡ bit_symbol bit }
-    {
+impl From<bool> for Symbol {
+    ghost from_gives = { λ bit symbol. symbol ≡ bit_symbol bit };
+
+    fn from(bit: bool) -> Symbol {
         if bit { Symbol::One } else { Symbol::Zero }
     }
+}
 
+impl Symbol {
     // Whether SDA is pulled for it from the fall on.
     pub(crate) fn pulls_sda(self) -> bool
         ensures { result ≡ pulls_sda self }

@@ -2,25 +2,21 @@
 use Rattle.std.specs.Prelude.{ℕ, suc, ◌-◌, ◌/◌, ◌%◌, Bool, true, false, cond, not, ◌&&◌, Some, None, Option, ◌==◌, nat_lt}
 use Rattle.transfer.specs.declared.leg.Direction.{Direction}
 use Rattle.transfer.specs.declared.leg.Direction.TheVariants.{Write, Read}
+use Rattle.transfer.specs.Legs.{direction_of}
 use Rattle.device.specs.Behaviours.{Behaviour}
+use Rattle.device.specs.declared.device.Device.{Ghosts}
 use Rattle.port.specs.declared.port.Mode.{Mode}
 use Rattle.port.specs.declared.port.Mode.TheVariants.{Out, Addressing, Writing, Acknowledging, Reading}
-use Rattle.port.specs.declared.port.Partial.{Partial}
 use Rattle.port.specs.declared.port.Port.{Port}
 use Rattle.wire.specs.declared.wire.Event.{Event}
 use Rattle.wire.specs.declared.wire.Event.TheVariants.{Rise, Fall, Start, Stop, SteadyHigh, SteadyLow}
 use Rattle.wire.specs.declared.wire.Pulls.{Pulls}
 use Rattle.wire.specs.declared.wire.Signal.{Signal}
-use Rattle.wire.specs.Octets.{digit, shifted}
+use Rattle.wire.specs.Octets.{digit, shifted, part}
 
 -- whether a port of this address answers to the address asked for
 abbrev pub answers_to : ℕ → ℕ → Bool
 answers_to mine asked = mine == asked
-
--- a lowest bit of 1 is a read
-abbrev pub direction_of : Bool → Direction
-direction_of true = Read
-direction_of false = Write
 
 pub record PortModel (b : Behaviour) : Type 0 where
   pub address : ℕ
@@ -30,9 +26,6 @@ pub record PortModel (b : Behaviour) : Type 0 where
   pub mode : Mode
   -- how many more steady-low ticks SCL is pulled
   pub hold : ℕ
-
-abbrev pub part : ℕ → ℕ → Partial
-part n v = record { bits = n; value = v }
 
 -- a port pulls for a yes, and for each 0 of a byte that it shows
 abbrev pub mode_pulls : Mode → Bool
@@ -105,5 +98,5 @@ abbrev pub port_new : (b : Behaviour) → PortModel b → PortModel b
 port_new b p = new_port b p.address p.meaning
 
 -- a port as the rules see it, its device by what that means
-abbrev pub port_model : (b : Behaviour) {D : Type 0} → (D → b.Meaning) → Port D → PortModel b
-port_model b means p = record { address = p.address.number; meaning = means p.device; owed = p.owes_finish; mode = p.mode; hold = p.hold }
+abbrev pub port_model : {D : Type 0} → (device : Ghosts D) → Port D → PortModel device.behaviour
+port_model device p = record { address = p.address.number; meaning = device.means p.device; owed = p.owes_finish; mode = p.mode; hold = p.hold }

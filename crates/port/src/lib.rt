@@ -3,4 +3,5 @@
 
 mod port;
 
-pub use port::{Mode, Partial, Port};
+pub use port::{Mode, Port};
+pub use wire::Partial;

@@ -1,14 +1,8 @@
 // A port: its address, its device and where it is in a byte.
 use transfer::{Address, Direction};
+use wire::Partial;
 
 mod steps;
-
-// A byte under way: how many of its bits have passed, and its value.
-#[derive(Clone, Copy)]
-pub struct Partial {
-    pub bits: u8,
-    pub value: u8,
-}
 
 #[derive(Clone, Copy)]
 pub enum Mode {

@@ -7,7 +7,7 @@ use Rattle.transfer.specs.declared.leg.Direction.{Direction}
 use Rattle.transfer.specs.declared.leg.Direction.TheVariants.{Write}
 use Rattle.transfer.specs.declared.outcome.OutcomeKind.{OutcomeKind}
 use Rattle.transfer.specs.declared.outcome.OutcomeKind.TheVariants.{Done, NoAnswer, Refused}
-use Rattle.transfer.specs.Legs.{BodyModel, writes, reads, LegModel, body_direction}
+use Rattle.transfer.specs.Legs.{BodyModel, writes, reads, LegModel, body_direction, direction_of}
 use Rattle.transfer.specs.Octets.{Octets}
 use Rattle.device.specs.Behaviours.{Behaviour}
 use Rattle.master.specs.declared.symbol.Symbol.TheVariants.{Listen}
@@ -15,7 +15,7 @@ use Rattle.law.specs.Banks.{Bank, each, listed}
 use Rattle.law.specs.Carrying.{Placed, Taking, taken_from, gives, joined, call_byte, byte_levels, Passed, ends, after_byte, somebody, written, read, passed_body, passed}
 use Rattle.master.specs.Cursors.{sends, done, Notes, CursorModel, at, sent, own, shown, unanswered, leave, onward, cursor_next}
 use Rattle.wire.specs.Octets.{digit, shifted}
-use Rattle.port.specs.Ports.{PortModel, direction_of}
+use Rattle.port.specs.Ports.{PortModel}
 use Rattle.master.specs.Scripts.{transfers}
 use Rattle.master.specs.Symbols.{bit_symbol}
 use Rattle.law.specs.Legal.{LegalBody, LegalLeg}

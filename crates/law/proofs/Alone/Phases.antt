@@ -7,8 +7,9 @@ use Rattle.device.specs.Behaviours.{Behaviour}
 use Rattle.port.specs.declared.port.Mode.TheVariants.{Out, Addressing, Writing, Acknowledging, Reading}
 use Rattle.law.specs.Banks.{Bank, each, listed}
 use Rattle.law.specs.Carrying.{Placed, Taking, selected, put_to, taken_from, gives, settled, joined, somebody}
-use Rattle.wire.specs.Octets.{digit, shifted}
-use Rattle.port.specs.Ports.{PortModel, part, mode_pulls, answers_to, direction_of, called}
+use Rattle.wire.specs.Octets.{digit, shifted, part}
+use Rattle.transfer.specs.Legs.{direction_of}
+use Rattle.port.specs.Ports.{PortModel, mode_pulls, answers_to, called}
 use Rattle.law.proofs.Sides.{Side}
 use Rattle.law.proofs.Alone.Banks.{any, each_each, any_each, none_each}
 use Rattle.law.proofs.Alone.Octets.{ones, digit_and}

@@ -9,9 +9,10 @@ use Rattle.wire.specs.declared.wire.Event.TheVariants.{Rise, Fall, Start, Stop, 
 use Rattle.wire.specs.declared.wire.Signal.{Signal}
 use Rattle.law.specs.Banks.{Bank, each, listed}
 use Rattle.law.specs.Buses.{all_pulls, Holds, ports_step}
-use Rattle.port.specs.Ports.{port_new, PortModel, part, mode_pulls, port_pulls, answers_to, direction_of, goes, selects, called, puts, reads_on, counts, settles, new_port}
+use Rattle.transfer.specs.Legs.{direction_of}
+use Rattle.port.specs.Ports.{port_new, PortModel, mode_pulls, port_pulls, answers_to, goes, selects, called, puts, reads_on, counts, settles, new_port}
 use Rattle.law.specs.Carrying.{Placed}
-use Rattle.wire.specs.Octets.{shifted}
+use Rattle.wire.specs.Octets.{shifted, part}
 use Rattle.law.proofs.Sides.{Side}
 use Rattle.law.proofs.Alone.Banks.{any}
 

@@ -9,8 +9,9 @@ use Rattle.wire.specs.declared.wire.Event.{Event}
 use Rattle.wire.specs.declared.wire.Event.TheVariants.{Rise, Fall, Start, Stop, SteadyHigh, SteadyLow}
 use Rattle.law.specs.Banks.{Bank, listed}
 use Rattle.law.specs.Buses.{all_pulls, Holds, ports_step}
-use Rattle.wire.specs.Octets.{shifted}
-use Rattle.port.specs.Ports.{PortModel, part, port_pulls, answers_to, direction_of, goes, selects, called, puts, reads_on, counts}
+use Rattle.wire.specs.Octets.{shifted, part}
+use Rattle.transfer.specs.Legs.{direction_of}
+use Rattle.port.specs.Ports.{PortModel, port_pulls, answers_to, goes, selects, called, puts, reads_on, counts}
 use Rattle.law.proofs.Law.Machine.{hold_after}
 
 abbrev pub longest_hold : (ds : List Behaviour) → Bank PortModel ds → ℕ

@@ -88,9 +88,9 @@ impl Cursor {
         ensures { result ≡ shown (leg_model self.now.leg) self.now.byte self.now.bit }
     {
         match (self.is_own(), self.bit < 8) {
-            (true, true) => Symbol::of_bit(digit_at(self.sent_byte(), 7 - self.bit)),
+            (true, true) => Symbol::from(digit_at(self.sent_byte(), 7 - self.bit)),
             (true, false) | (false, true) => Symbol::Listen,
-            (false, false) => Symbol::of_bit(self.byte >= self.leg.size()),
+            (false, false) => Symbol::from(self.byte >= self.leg.size()),
         }
     }
 
@@ -171,14 +171,11 @@ impl Cursor {
     pub(crate) fn outcome(&self) -> Outcome
         ensures { outcome_model result ≡ outcome_of (cursor_model self.now) }
     {
-        match self.kind {
-            OutcomeKind::Done => Outcome {
-                kind: self.kind,
-                read: self.read,
-            },
-            _ => Outcome {
-                kind: self.kind,
-                read: ReadBytes::new(),
+        Outcome {
+            kind: self.kind,
+            read: match self.kind {
+                OutcomeKind::Done => self.read,
+                OutcomeKind::NoAnswer(_) | OutcomeKind::Refused(_) => ReadBytes::new(),
             },
         }
     }

@@ -5,7 +5,7 @@ ghost use Rattle.master.specs.Serving.{served_pulls, served_armed, served_new, s
 ghost use Rattle.master.specs.Masters.{new_master};
 ghost use Rattle.master.specs.Scripts.{transfers};
 
-use super::{Arming, Master, MasterState, Verdict};
+use super::{Master, MasterState, Verdict};
 use crate::mark::Mark;
 use host::Host;
 use transfer::{ClockPair, Refusal};
@@ -13,7 +13,7 @@ use wire::{Pulls, Signal};
 
 impl<H: Host> Master<H> {
     pub fn new(clock: ClockPair, host: H) -> Master<H>
-        ensures { served H.Host.behaviour H.Host.means result ≡ record { master = new_master transfers clock.low clock.high; meaning = H.Host.means host } }
+        ensures { served H.Host result ≡ record { master = new_master transfers clock.low clock.high; meaning = H.Host.means host } }
     {
         Master {
             state: MasterState::new(clock),
@@ -30,7 +30,7 @@ impl<H: Host> Master<H> {
     }
 
     pub fn pulls(&self) -> Pulls
-        ensures { result ≡ served_pulls H.Host.behaviour (served H.Host.behaviour H.Host.means self.now) }
+        ensures { result ≡ served_pulls _ (served H.Host self.now) }
     {
         // by line: what a tick wrote to one line is then read as it was written
         Pulls {
@@ -40,39 +40,34 @@ impl<H: Host> Master<H> {
     }
 
     pub fn is_armed(&self) -> bool
-        ensures { result ≡ served_armed H.Host.behaviour (served H.Host.behaviour H.Host.means self.now) }
+        ensures { result ≡ served_armed _ (served H.Host self.now) }
     {
-        match self.state.arming {
-            Arming::Idle => false,
-            Arming::Armed(_) => true,
-        }
+        self.state.armed.is_some()
     }
 
     pub fn reset(&mut self)
-        ensures { served H.Host.behaviour H.Host.means self.new ≡ served_new H.Host.behaviour (served H.Host.behaviour H.Host.means self.old) }
+        ensures { served H.Host self.new ≡ served_new _ (served H.Host self.old) }
     {
         self.state = MasterState::new(self.state.clock);
     }
 
     pub fn arm(&mut self) -> Result<(), Refusal>
-        ensures { (answer (λ u. u) result, served H.Host.behaviour H.Host.means self.new) ≡ served_arm H.Host.behaviour (served H.Host.behaviour H.Host.means self.old) }
+        ensures { (answer (λ u. u) result, served H.Host self.new) ≡ served_arm _ (served H.Host self.old) }
     {
-        match self.state.arming {
-            Arming::Armed(_) => Err(Refusal::ArmedAlready),
-            Arming::Idle => {
-                let (wanted, transfer) = self.host.want();
-                if !wanted {
-                    return Err(Refusal::NothingWanted);
-                }
-                self.state.arming = Arming::Armed(transfer);
-                Ok(())
-            }
+        if self.is_armed() {
+            return Err(Refusal::ArmedAlready);
         }
+        let (wanted, transfer) = self.host.want();
+        if !wanted {
+            return Err(Refusal::NothingWanted);
+        }
+        self.state.armed = Some(transfer);
+        Ok(())
     }
 
     pub fn step(&mut self, signal: Signal) -> Mark
-        ensures mark { result ≡ served_mark H.Host.behaviour signal (served H.Host.behaviour H.Host.means self.old) }
-        ensures after { served H.Host.behaviour H.Host.means self.new ≡ served_step H.Host.behaviour signal (served H.Host.behaviour H.Host.means self.old) }
+        ensures mark { result ≡ served_mark _ signal (served H.Host self.old) }
+        ensures after { served H.Host self.new ≡ served_step _ signal (served H.Host self.old) }
     {
         match self.state.step(signal) {
             Verdict::Quiet => Mark::Quiet,

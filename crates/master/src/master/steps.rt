@@ -1,14 +1,14 @@
 // How a master is armed, and how it steps.
-ghost use Rattle.std.specs.Prelude.{◌≡◌};
-ghost use Rattle.master.specs.Masters.{master_model, new_master, master_step, verdict_model, contends, shows, rises, loses, tells};
-ghost use Rattle.master.specs.Cursors.{cursor_model};
-ghost use Rattle.master.specs.declared.master.Stage.TheVariants.{Showing};
+ghost use Rattle.std.specs.Prelude.{◌≡◌, true};
+ghost use Rattle.master.specs.Masters.{master_model, new_master, master_step, verdict_model, contends, loses, to, quiet, told};
+ghost use Rattle.master.specs.Symbols.{pulls_sda};
+ghost use Rattle.transfer.specs.Outcomes.{outcome_model};
 ghost use Rattle.master.specs.Scripts.{transfers};
 
-use super::{Arming, MasterState, Stage, Verdict};
+use super::{MasterState, Stage, Verdict};
 use crate::cursor::Cursor;
 use crate::symbol::Symbol;
-use transfer::{ClockPair, Transfer};
+use transfer::{ClockPair, Outcome};
 use wire::{Event, Pulls, Signal};
 
 impl MasterState {
@@ -17,11 +17,10 @@ impl MasterState {
     {
         MasterState {
             clock,
-            arming: Arming::Idle,
+            armed: None,
             stage: Stage::Waiting,
             count: 0,
             pulls: Pulls::none(),
-            cursor: Cursor::new(Transfer::filler()),
         }
     }
 
@@ -29,32 +28,59 @@ impl MasterState {
         ensures { (master_model self.new, verdict_model result) ≡ master_step transfers (master_model self.old) signal }
     {
         // by event first: all masters meet the same one, so its branch is foreseen from the second on
-        match (signal.event, self.stage) {
+        match (signal.event, &mut self.stage) {
             (Event::SteadyHigh, Stage::Waiting) if signal.idle => self.contend(),
-            (Event::SteadyLow, Stage::Opening | Stage::Showing(_)) => {
+            (Event::SteadyLow, Stage::Opening(_) | Stage::Showing(..)) => {
                 self.count = self.count.saturating_sub(1);
                 self.pulls.scl = self.count > 0;
                 Verdict::Quiet
             }
-            (Event::SteadyHigh, Stage::Opening | Stage::Showing(_)) => {
+            (Event::SteadyHigh, Stage::Opening(_) | Stage::Showing(..)) => {
                 self.count = self.count.saturating_sub(1);
                 self.pulls.scl = self.count == 0;
                 Verdict::Quiet
             }
-            (Event::Fall, Stage::Opening) => self.show(),
-            (Event::Fall, Stage::Showing(_)) => {
-                self.cursor.advance(signal.bit.unwrap_or(true));
-                self.show()
+            (Event::Fall, Stage::Opening(cursor)) => {
+                let symbol = cursor.symbol();
+                self.stage = Stage::Showing(symbol, *cursor);
+                self.pull_for(symbol)
             }
-            (Event::Rise(sda), Stage::Showing(symbol)) => self.rise(symbol, sda),
-            (Event::Start, Stage::Showing(Symbol::One)) => self.lose(),
-            (Event::Start, Stage::Opening | Stage::Showing(_)) | (Event::Rise(_), Stage::Opening) =>
-                {
+            (Event::Fall, Stage::Showing(symbol, cursor)) => {
+                cursor.advance(signal.bit.unwrap_or(true));
+                *symbol = cursor.symbol();
+                let symbol = *symbol;
+                self.pull_for(symbol)
+            }
+            (Event::Rise(sda), Stage::Showing(symbol, cursor)) => match (*symbol, sda) {
+                // 1 and the repeated start are lost under a low
+                (Symbol::One | Symbol::RepeatedStart, false) => self.lose(),
+                (Symbol::RepeatedStart, true) => {
+                    self.pulls.sda = true;
                     self.count = self.clock.high();
                     Verdict::Quiet
                 }
-            (Event::Stop, Stage::Ending) => self.tell(),
-            (_, Stage::Ending) => self.lose(),
+                (Symbol::Stop, _) => {
+                    self.stage = Stage::Ending(*cursor);
+                    self.pulls.sda = false;
+                    self.count = self.clock.high();
+                    Verdict::Quiet
+                }
+                _ => {
+                    self.count = self.clock.high();
+                    Verdict::Quiet
+                }
+            },
+            (Event::Start, Stage::Showing(Symbol::One, _)) => self.lose(),
+            (Event::Start, Stage::Opening(_) | Stage::Showing(..))
+            | (Event::Rise(_), Stage::Opening(_)) => {
+                self.count = self.clock.high();
+                Verdict::Quiet
+            }
+            (Event::Stop, Stage::Ending(cursor)) => {
+                let outcome = cursor.outcome();
+                self.tell(outcome)
+            }
+            (_, Stage::Ending(_)) => self.lose(),
             _ => Verdict::Quiet,
         }
     }
@@ -63,9 +89,8 @@ impl MasterState {
     fn contend(&mut self) -> Verdict
         ensures { (master_model self.new, verdict_model result) ≡ contends transfers (master_model self.old) (master_model self.old).arming }
     {
-        if let Arming::Armed(transfer) = self.arming {
-            self.cursor = Cursor::new(transfer);
-            self.stage = Stage::Opening;
+        if let Some(transfer) = self.armed {
+            self.stage = Stage::Opening(Cursor::new(transfer));
             self.count = 0;
             self.pulls = Pulls {
                 scl: false,
@@ -75,35 +100,16 @@ impl MasterState {
         Verdict::Quiet
     }
 
-    // At a fall the clock is pulled and the next symbol shown.
-    fn show(&mut self) -> Verdict
-        ensures { (master_model self.new, verdict_model result) ≡ shows transfers (master_model self.old) (cursor_model self.old.cursor) }
+    // At a fall the clock is pulled, and SDA as the symbol shown asks.
+    fn pull_for(&mut self, symbol: Symbol) -> Verdict
+        ensures after { master_model self.new ≡ to transfers (master_model self.old) (master_model self.old).stage self.old.clock.low true (pulls_sda symbol) }
+        ensures verdict { verdict_model result ≡ quiet }
     {
-        let symbol = self.cursor.symbol();
-        self.stage = Stage::Showing(symbol);
         self.count = self.clock.low();
         self.pulls = Pulls {
             scl: true,
             sda: symbol.pulls_sda(),
         };
-        Verdict::Quiet
-    }
-
-    // 1 and the repeated start are lost under a low.
-    fn rise(&mut self, symbol: Symbol, sda: bool) -> Verdict
-        requires { self.old.stage ≡ Showing symbol }
-        ensures { (master_model self.new, verdict_model result) ≡ rises transfers (master_model self.old) symbol (cursor_model self.old.cursor) sda }
-    {
-        match (symbol, sda) {
-            (Symbol::One | Symbol::RepeatedStart, false) => return self.lose(),
-            (Symbol::RepeatedStart, true) => self.pulls.sda = true,
-            (Symbol::Stop, _) => {
-                self.stage = Stage::Ending;
-                self.pulls.sda = false;
-            }
-            _ => {}
-        }
-        self.count = self.clock.high();
         Verdict::Quiet
     }
 
@@ -117,13 +123,12 @@ impl MasterState {
         Verdict::Lost
     }
 
-    fn tell(&mut self) -> Verdict
-        ensures { (master_model self.new, verdict_model result) ≡ tells transfers (master_model self.old) (cursor_model self.old.cursor) }
+    // Once its host is told a master is as a new one.
+    fn tell(&mut self, outcome: Outcome) -> Verdict
+        ensures after { master_model self.new ≡ new_master transfers self.old.clock.low self.old.clock.high }
+        ensures verdict { verdict_model result ≡ told (outcome_model outcome) }
     {
-        self.arming = Arming::Idle;
-        self.stage = Stage::Waiting;
-        self.count = 0;
-        self.pulls = Pulls::none();
-        Verdict::Told(self.cursor.outcome())
+        *self = MasterState::new(self.clock);
+        Verdict::Told(outcome)
     }
 }

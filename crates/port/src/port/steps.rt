@@ -1,20 +1,12 @@
 // How a port steps, and what it asks its device.
 ghost use Rattle.std.specs.Prelude.{◌≡◌, ℕ, ◌<◌};
-ghost use Rattle.port.specs.Ports.{port_new, port_model, part, mode_pulls, port_pulls, counts, reads_on, settles, port_step, new_port};
+ghost use Rattle.port.specs.Ports.{port_new, port_model, mode_pulls, port_pulls, counts, reads_on, settles, port_step, new_port};
 ghost use Rattle.port.specs.declared.port.Mode.TheVariants.{Addressing, Writing, Reading};
 
-use super::{Mode, Partial, Port};
+use super::{Mode, Port};
 use device::Device;
 use transfer::{Address, Direction};
-use wire::{Event, Pulls, Signal, digit_at, shift_in};
-
-impl Partial {
-    fn none() -> Partial
-        ensures { result ≡ part 0 0 }
-    {
-        Partial { bits: 0, value: 0 }
-    }
-}
+use wire::{Event, Partial, Pulls, Signal, digit_at, shift_in};
 
 impl Mode {
     fn pulls_sda(self) -> bool
@@ -30,7 +22,7 @@ impl Mode {
 
 impl<D: Device> Port<D> {
     pub fn new(address: Address, device: D) -> Port<D>
-        ensures { port_model D.Device.behaviour D.Device.means result ≡ new_port D.Device.behaviour address.number (D.Device.means device) }
+        ensures { port_model D.Device result ≡ new_port D.Device.behaviour address.number (D.Device.means device) }
     {
         Port {
             address,
@@ -56,7 +48,7 @@ impl<D: Device> Port<D> {
     }
 
     pub fn reset(&mut self)
-        ensures { port_model D.Device.behaviour D.Device.means self.new ≡ port_new D.Device.behaviour (port_model D.Device.behaviour D.Device.means self.old) }
+        ensures { port_model D.Device self.new ≡ port_new _ (port_model D.Device self.old) }
     {
         self.mode = Mode::Out;
         self.owes_finish = false;
@@ -64,7 +56,7 @@ impl<D: Device> Port<D> {
     }
 
     pub fn pulls(&self) -> Pulls
-        ensures { result ≡ port_pulls D.Device.behaviour (port_model D.Device.behaviour D.Device.means self.now) }
+        ensures { result ≡ port_pulls _ (port_model D.Device self.now) }
     {
         Pulls {
             scl: self.hold > 0,
@@ -73,16 +65,16 @@ impl<D: Device> Port<D> {
     }
 
     pub fn step(&mut self, signal: Signal)
-        ensures { (h : ℕ) × (h < 256) × (port_model D.Device.behaviour D.Device.means self.new ≡ port_step D.Device.behaviour (port_model D.Device.behaviour D.Device.means self.old) signal h) }
+        ensures { (h : ℕ) × (h < 256) × (port_model D.Device self.new ≡ port_step _ (port_model D.Device self.old) signal h) }
     {
         match (self.mode, signal.event, signal.bit) {
-            (_, Event::Start, _) => self.settle(Mode::Addressing(Partial::none())),
+            (_, Event::Start, _) => self.settle(Mode::Addressing(Partial::of(0))),
             (_, Event::Stop, _) => self.settle(Mode::Out),
             (_, Event::SteadyLow, _) => self.hold = self.hold.saturating_sub(1),
             (Mode::Addressing(byte), Event::Fall, Some(bit)) => self.address_bit(byte, bit),
             (Mode::Writing(byte), Event::Fall, Some(bit)) => self.write_bit(byte, bit),
             (Mode::Acknowledging(Direction::Write), Event::Fall, Some(_)) => {
-                self.mode = Mode::Writing(Partial::none());
+                self.mode = Mode::Writing(Partial::of(0));
                 self.hold = self.device.hold();
             }
             (Mode::Acknowledging(Direction::Read), Event::Fall, Some(bit)) => self.read_on(bit),
@@ -93,7 +85,7 @@ impl<D: Device> Port<D> {
 
     // A device that said yes to select is finished.
     fn settle(&mut self, mode: Mode)
-        ensures { port_model D.Device.behaviour D.Device.means self.new ≡ settles D.Device.behaviour (port_model D.Device.behaviour D.Device.means self.old) mode }
+        ensures { port_model D.Device self.new ≡ settles _ (port_model D.Device self.old) mode }
     {
         if self.owes_finish {
             self.device.finish();
@@ -105,20 +97,13 @@ impl<D: Device> Port<D> {
     // At the eighth bit of the address byte a port that it calls selects its device.
     fn address_bit(&mut self, byte: Partial, bit: bool)
         requires { self.old.mode ≡ Addressing byte }
-        ensures { (h : ℕ) × (h < 256) × (port_model D.Device.behaviour D.Device.means self.new ≡ counts D.Device.behaviour (port_model D.Device.behaviour D.Device.means self.old) (Addressing byte) bit h) }
+        ensures { (h : ℕ) × (h < 256) × (port_model D.Device self.new ≡ counts _ (port_model D.Device self.old) (Addressing byte) bit h) }
     {
         let value = shift_in(byte.value, bit);
         if byte.bits < 7 {
-            self.mode = Mode::Addressing(Partial {
-                bits: byte.bits + 1,
-                value,
-            });
+            self.mode = Mode::Addressing(byte.received(bit));
         } else if value / 2 == self.address.number() {
-            let direction = if value % 2 == 1 {
-                Direction::Read
-            } else {
-                Direction::Write
-            };
+            let direction = Direction::from(value % 2 == 1);
             self.owes_finish = self.device.select(direction);
             self.mode = if self.owes_finish {
                 Mode::Acknowledging(direction)
@@ -133,15 +118,11 @@ impl<D: Device> Port<D> {
     // At the eighth bit of a written byte it is put.
     fn write_bit(&mut self, byte: Partial, bit: bool)
         requires { self.old.mode ≡ Writing byte }
-        ensures { (h : ℕ) × (h < 256) × (port_model D.Device.behaviour D.Device.means self.new ≡ counts D.Device.behaviour (port_model D.Device.behaviour D.Device.means self.old) (Writing byte) bit h) }
+        ensures { (h : ℕ) × (h < 256) × (port_model D.Device self.new ≡ counts _ (port_model D.Device self.old) (Writing byte) bit h) }
     {
-        let value = shift_in(byte.value, bit);
         if byte.bits < 7 {
-            self.mode = Mode::Writing(Partial {
-                bits: byte.bits + 1,
-                value,
-            });
-        } else if self.device.put(value) {
+            self.mode = Mode::Writing(byte.received(bit));
+        } else if self.device.put(shift_in(byte.value, bit)) {
             self.mode = Mode::Acknowledging(Direction::Write);
         } else {
             self.mode = Mode::Out;
@@ -150,13 +131,10 @@ impl<D: Device> Port<D> {
 
     fn read_bit(&mut self, byte: Partial, bit: bool)
         requires { self.old.mode ≡ Reading byte }
-        ensures { (h : ℕ) × (h < 256) × (port_model D.Device.behaviour D.Device.means self.new ≡ counts D.Device.behaviour (port_model D.Device.behaviour D.Device.means self.old) (Reading byte) bit h) }
+        ensures { (h : ℕ) × (h < 256) × (port_model D.Device self.new ≡ counts _ (port_model D.Device self.old) (Reading byte) bit h) }
     {
         if byte.bits < 8 {
-            self.mode = Mode::Reading(Partial {
-                bits: byte.bits + 1,
-                value: byte.value,
-            });
+            self.mode = Mode::Reading(byte.shown());
         } else {
             self.read_on(bit);
         }
@@ -164,15 +142,12 @@ impl<D: Device> Port<D> {
 
     // At the ninth bit of a read an N puts the port out, and at an A it takes a byte and then reads hold.
     fn read_on(&mut self, nack: bool)
-        ensures { (h : ℕ) × (h < 256) × (port_model D.Device.behaviour D.Device.means self.new ≡ reads_on D.Device.behaviour (port_model D.Device.behaviour D.Device.means self.old) nack (D.Device.behaviour.take (D.Device.means self.old.device)) h) }
+        ensures { (h : ℕ) × (h < 256) × (port_model D.Device self.new ≡ reads_on _ (port_model D.Device self.old) nack (D.Device.behaviour.take (D.Device.means self.old.device)) h) }
     {
         if nack {
             self.mode = Mode::Out;
         } else {
-            self.mode = Mode::Reading(Partial {
-                bits: 0,
-                value: self.device.take(),
-            });
+            self.mode = Mode::Reading(Partial::of(self.device.take()));
             self.hold = self.device.hold();
         }
     }

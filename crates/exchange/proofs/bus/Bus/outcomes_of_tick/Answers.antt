@@ -10,7 +10,7 @@ pub returns : goal.returns
 returns g c =
     let hs = g.M.Masters.hosts in
     let ds = g.P.Ports.devices in
-    let u = bus_model hs g.M.Masters.stand ds g.P.Ports.stand c.args.self.now in
+    let u = bus_model g.M.Masters g.P.Ports c.args.self.now in
     let tick_is = c.tick.ensures.1 in
     record {
       few = c.outcomes.ensures.few;
