@@ -7,9 +7,8 @@ use Rattle.law.specs.Buses.{BusModel}
 use Rattle.law.specs.Runs.{RunModel}
 
 -- a bus as the rules see it, its banks by what they stand for
--- a bus as the rules see it, its banks by what they stand for
-abbrev pub bus_model : {M P : Type 0} → (masters : masters.Ghosts M) → (ports : ports.Ghosts P) → Bus M P → BusModel masters.hosts ports.devices
-bus_model masters ports u = record { wire = u.wire; masters = masters.stand u.masters; ports = ports.stand u.ports }
+abbrev pub bus_model : {M P : Type 0} {masters : masters.Ghosts M} {ports : ports.Ghosts P} → Bus M P masters ports → BusModel masters.hosts ports.devices
+bus_model {masters = masters} {ports = ports} u = record { wire = u.wire; masters = masters.stand u.masters; ports = ports.stand u.ports }
 
 abbrev pub run_model : Run → RunModel
 run_model r = record { ticks = r.ticks; outcomes = r.outcomes; load = r.load }

@@ -132,11 +132,12 @@ impl<H: Host, B: Masters> Masters for (Master<H>, B) {
 
     fn step(&mut self, signal: Signal, marks: &mut [Mark]) {
         let mark = self.0.step(signal);
-        if marks.len() == 0 {
-            self.1.step(signal, marks);
-        } else {
-            marks[0] = mark;
-            self.1.step(signal, &mut marks[1..]);
+        match marks.split_first_mut() {
+            Some((first, rest)) => {
+                *first = mark;
+                self.1.step(signal, rest);
+            }
+            None => self.1.step(signal, marks),
         }
     }
 }

@@ -1,14 +1,19 @@
 // The bus: the wire, a bank of masters and a bank of ports.
+ghost use Rattle.std.specs.Prelude.{◌≤◌, length};
+
+use crate::bank::{Masters, Ports};
 use wire::Wire;
 
 mod calls;
 mod running;
 
 // It cannot be copied, and closing it moves it: a closed bus is not ticked.
-pub struct Bus<M, P> {
+pub struct Bus<M: Masters, P: Ports> {
     wire: Wire,
     masters: M,
     ports: P,
+    // a tick has eight marks, one for each master
+    ghost few_masters: { length M.Masters.hosts ≤ 8 },
 }
 
 // What a run answers: the ticks made, the outcomes told in them, and the busy ticks in thousandths of these ticks.

@@ -20,7 +20,7 @@ impl<M: Masters, P: Ports> Bus<M, P> {
         requires some_master { 1 ≤ length M.Masters.hosts }
         requires few_masters { length M.Masters.hosts ≤ 8 }
         requires few_ports { length P.Ports.devices ≤ 16 }
-        ensures made { bus_model M.Masters P.Ports result ≡ made M.Masters.hosts P.Ports.devices (M.Masters.stand masters) (P.Ports.stand ports) }
+        ensures made { bus_model result ≡ made M.Masters.hosts P.Ports.devices (M.Masters.stand masters) (P.Ports.stand ports) }
         ensures law { EveryUse M.Masters.hosts P.Ports.devices (M.Masters.stand masters) (P.Ports.stand ports) }
         ensures strings { StringLaws P.Ports.devices P.Ports.devices }
         ensures bytes { ByteLaws P.Ports.devices }
@@ -36,14 +36,14 @@ impl<M: Masters, P: Ports> Bus<M, P> {
 
     // Arms master number `master`, counted from 0, with what its host wants.
     pub fn arm(&mut self, master: usize) -> Result<(), Refusal>
-        ensures { (answer (λ u. u) result, bus_model M.Masters P.Ports self.new) ≡ arm_at _ _ (bus_model M.Masters P.Ports self.old) master }
+        ensures { (answer (λ u. u) result, bus_model self.new) ≡ arm_at _ _ (bus_model self.old) master }
     {
         self.masters.arm(master)
     }
 
     // One tick, one function of the bus before it and of what the devices answer to hold: that alone is open.
     pub fn tick(&mut self) -> Tick
-        ensures { (h : Holds P.Ports.devices) × ((result, bus_model M.Masters P.Ports self.new) ≡ tick_at _ _ (bus_model M.Masters P.Ports self.old) h) }
+        ensures { (h : Holds P.Ports.devices) × ((result, bus_model self.new) ≡ tick_at _ _ (bus_model self.old) h) }
     {
         let levels = self.masters.pulls().or(self.ports.pulls()).levels();
         let signal = self.wire.step(levels);
@@ -59,7 +59,7 @@ impl<M: Masters, P: Ports> Bus<M, P> {
 
     // The bus is free and no master is armed.
     pub fn at_rest(&self) -> bool
-        ensures { result ≡ is_at_rest _ _ (bus_model M.Masters P.Ports self.now) }
+        ensures { result ≡ is_at_rest _ _ (bus_model self.now) }
     {
         !self.wire.busy && !self.masters.any_armed()
     }

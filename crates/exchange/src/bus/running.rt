@@ -15,8 +15,7 @@ impl<M: Masters, P: Ports> Bus<M, P> {
     // Ticks until the bus is at rest, `n` times at most. A tick has eight marks, so the outcomes told are counted by
     // them only where there are no more masters.
     pub fn run(&mut self, n: u32) -> Result<Run, Refusal>
-        requires few_masters { length M.Masters.hosts ≤ 8 }
-        ensures { (a : ℕ → Holds P.Ports.devices) × ((answer run_model result, bus_model M.Masters P.Ports self.new) ≡ run_at _ _ (bus_model M.Masters P.Ports self.old) n a) }
+        ensures { (a : ℕ → Holds P.Ports.devices) × ((answer run_model result, bus_model self.new) ≡ run_at _ _ (bus_model self.old) n a) }
     {
         if n > MOST_TICKS {
             return Err(Refusal::TooManyTicks);
@@ -43,10 +42,9 @@ impl<M: Masters, P: Ports> Bus<M, P> {
 
     // One tick, and how many outcomes it told.
     fn outcomes_of_tick(&mut self) -> u32
-        requires few_masters { length M.Masters.hosts ≤ 8 }
         ensures few { result ≤ 8 }
-        ensures all { result ≡ how_many (told_at _ _ (bus_model M.Masters P.Ports self.old)) }
-        ensures after { (h : Holds P.Ports.devices) × (bus_model M.Masters P.Ports self.new ≡ (tick_at _ _ (bus_model M.Masters P.Ports self.old) h).1) }
+        ensures all { result ≡ how_many (told_at _ _ (bus_model self.old)) }
+        ensures after { (h : Holds P.Ports.devices) × (bus_model self.new ≡ (tick_at _ _ (bus_model self.old) h).1) }
     {
         self.tick().outcomes()
     }

@@ -8,7 +8,7 @@ pub returns : goal.returns
 returns g c =
     let hs = g.M.Masters.hosts in
     let ds = g.P.Ports.devices in
-    let u = bus_model g.M.Masters g.P.Ports c.args.self.now in
+    let u = bus_model c.args.self.now in
     let levels_is : c.levels-levels.result ≡ levels_at hs ds u = levels_are _ _ _ _ _ _ c.levels-levels.ensures c.or.ensures c.pulls.ensures c.pulls-2.ensures in (
       c.step-2.ensures.0,
       tick_is hs ds u c.levels-levels.result c.step-signal.result c.step-signal.new.self _ _ _ c.step-2.ensures.0
