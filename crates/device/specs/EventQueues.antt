@@ -1,7 +1,7 @@
 -- The event queue: bytes that are read once, the oldest first. Assumes nothing.
 use Rattle.std.specs.Prelude.{ℕ, Bool, false, List, is_some}
 use Rattle.std.specs.Option.{unwrap_or}
-use Rattle.fifo.specs.Fifos.{left, first_of, later}
+use Rattle.fifo.specs.Fifos.{first_of, later}
 use Rattle.transfer.specs.declared.leg.Direction.{Direction}
 use Rattle.transfer.specs.declared.leg.Direction.TheVariants.{Write, Read}
 use Rattle.device.specs.declared.event_queue.EventQueue.{EventQueue}
@@ -22,4 +22,4 @@ event_queue = record {
 }
 
 abbrev pub queued : EventQueue → List ℕ
-queued q = left q.bytes
+queued q = q.bytes

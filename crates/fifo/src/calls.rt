@@ -1,7 +1,7 @@
 // The calls of a list.
 ghost use Rattle.std.specs.Prelude.{◌≡◌, []};
 ghost use Rattle.transfer.specs.Refusals.{answer};
-ghost use Rattle.fifo.specs.Fifos.{left, filled, first_of, later};
+ghost use Rattle.fifo.specs.Fifos.{filled, first_of, later};
 
 use crate::Fifo;
 use transfer::Refusal;
@@ -9,7 +9,7 @@ use transfer::Refusal;
 impl<T: Copy> Fifo<T> {
     // An empty list; `filler` only takes up its room.
     pub fn new(filler: T) -> Fifo<T>
-        ensures { left result ≡ [] }
+        ensures { result ≡ [] }
     {
         Fifo {
             slots: [filler; 8],
@@ -20,7 +20,7 @@ impl<T: Copy> Fifo<T> {
 
     // Starts a new list. One that is too long is refused, and changes nothing.
     pub fn fill(&mut self, items: &[T]) -> Result<(), Refusal>
-        ensures { (answer (λ u. u) result, left self.new) ≡ filled items.now (left self.old) }
+        ensures { (answer (λ u. u) result, self.new) ≡ filled items.now self.old }
     {
         if items.len() > 8 {
             return Err(Refusal::LengthOutOfRange);
@@ -32,7 +32,7 @@ impl<T: Copy> Fifo<T> {
     }
 
     pub fn first(&self) -> Option<T>
-        ensures { result ≡ first_of (left self.now) }
+        ensures { result ≡ first_of self.now }
     {
         let listed = &self.slots[..self.count];
         listed[self.place..].first().copied()
@@ -40,7 +40,7 @@ impl<T: Copy> Fifo<T> {
 
     // Goes on to the next item, if one is left.
     pub fn advance(&mut self)
-        ensures { left self.new ≡ later (left self.old) }
+        ensures { self.new ≡ later self.old }
     {
         self.place = (self.place + 1).min(self.count);
     }

@@ -1,7 +1,9 @@
 // A list of up to 8 items that is filled as a whole and taken from the front.
 #![tactic(auto)]
 
-ghost use Rattle.std.specs.Prelude.{◌≤◌};
+ghost use Rattle.std.specs.Prelude.{◌≤◌, List, take, drop};
+
+use std::marker::Model;
 
 mod calls;
 
@@ -12,6 +14,13 @@ pub struct Fifo<T> {
     slots: [T; 8],
     count: usize,
     place: usize,
-    ghost on_list: { place ≤ count },
-    ghost fits: { count ≤ 8 },
+}
+
+// Clauses see what is left of the list.
+impl<T> Model for Fifo<T> {
+    ghost Value = { List T };
+
+    ghost view = { λ f. drop f.place (take f.count f.slots) };
+
+    ghost invariant = { λ f. (f.place ≤ f.count) × (f.count ≤ 8) };
 }

@@ -1,7 +1,7 @@
 -- The list host: up to 8 transfers, one after the other, whatever comes of them. Assumes nothing.
 use Rattle.std.specs.Prelude.{ℕ, cond, List, length, Some, None, Ok, Err, Option, Result, nat_le}
 use Rattle.std.specs.Option.{option_map}
-use Rattle.fifo.specs.Fifos.{left, first_of, later}
+use Rattle.fifo.specs.Fifos.{first_of, later}
 use Rattle.transfer.specs.declared.draft.Transfer.{Transfer}
 use Rattle.transfer.specs.Outcomes.{OutcomeModel, outcome_model}
 use Rattle.host.specs.declared.list_host.ListHost.{ListHost}
@@ -24,4 +24,4 @@ abbrev pub refilled : List Transfer → Listed → Result (Unit {0}) ℕ × List
 refilled ts m = cond (nat_le (length ts) 8) (Ok tt, record { rest = ts; last = None }) (Err 4, m)
 
 abbrev pub listed : ListHost → Listed
-listed h = record { rest = left h.transfers; last = option_map outcome_model h.last }
+listed h = record { rest = h.transfers; last = option_map outcome_model h.last }

@@ -4,8 +4,8 @@ use Rattle.fifo.proofs.Fifo.advance.Goals as goal
 
 pub returns : goal.returns
 returns g c =
-    let f = c.args.self.now in
+    let f = c.self.inside in
     let ts = take f.count f.slots in
-    let long : length ts ≡ f.count = simp length-take (omega arith) in
-    let moves = later_drop ts f.place f.count long (omega arith) in
-    simp c.min-self.ensures (simp (sym moves))
+    let long : length ts ≡ f.count = simp length-take (omega (arith, c.self.invariant)) in
+    let moves = later_drop ts f.place f.count long c.self.invariant.0 in
+    rw (← c.self.view_is) (simp c.min-self-inside.ensures (simp (sym moves)))
