@@ -1,7 +1,6 @@
--- A draft and its calls, and the transfer that it is sealed into. Assumes nothing.
+-- A transfer, and the calls of a draft, which is seen as the transfer that it would be sealed into. Assumes nothing.
 use Rattle.std.specs.Prelude.{ℕ, cond, ◌&&◌, List, length, Some, None, Ok, Err, Option, Result, nat_le}
 use Rattle.std.specs.Option.{option_map}
-use Rattle.transfer.specs.declared.draft.Draft.{Draft}
 use Rattle.transfer.specs.declared.draft.Transfer.{Transfer}
 use Rattle.transfer.specs.Legs.{BodyModel, writes, reads, LegModel, leg_model, empty_write}
 
@@ -11,10 +10,6 @@ pub record TransferModel : Type 0 where
 
 abbrev pub transfer_model : Transfer → TransferModel
 transfer_model t = record { first = leg_model t.first; second = option_map leg_model t.second }
-
--- a draft by the transfer that it would be sealed into
-abbrev pub draft_model : Draft → TransferModel
-draft_model d = transfer_model d.transfer
 
 abbrev pub begun : ℕ → TransferModel
 begun a = record { first = empty_write a; second = None }

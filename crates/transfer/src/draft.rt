@@ -1,5 +1,8 @@
 // A transfer being put together, and the sealed transfer that it becomes.
+ghost use Rattle.transfer.specs.Drafts.{TransferModel, transfer_model};
+
 use crate::leg::Leg;
+use std::marker::Model;
 
 #[derive(Clone, Copy)]
 pub struct Transfer {
@@ -11,6 +14,13 @@ pub struct Transfer {
 #[derive(Drop)]
 pub struct Draft {
     transfer: Transfer,
+}
+
+// Clauses see the transfer that a draft would be sealed into.
+impl Model for Draft {
+    ghost Value = { TransferModel };
+
+    ghost view = { λ draft. transfer_model draft.transfer };
 }
 
 mod calls;

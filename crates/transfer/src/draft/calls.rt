@@ -1,8 +1,7 @@
 // The calls of a draft. A refused call changes nothing.
 ghost use Rattle.std.specs.Prelude.{◌≡◌};
-ghost use Rattle.transfer.specs.Drafts.{draft_model, transfer_model, begun, last_set, write_set, read_set, second_begun};
-ghost use Rattle.std.specs.Option.{option_map};
-ghost use Rattle.transfer.specs.Legs.{body_model, leg_model};
+ghost use Rattle.transfer.specs.Drafts.{transfer_model, begun, last_set, write_set, read_set, second_begun};
+ghost use Rattle.transfer.specs.Legs.{body_model};
 ghost use Rattle.transfer.specs.Refusals.{answer};
 
 use super::{Draft, Transfer};
@@ -14,7 +13,7 @@ use crate::refusal::Refusal;
 impl Draft {
     // One leg, an empty write to the address.
     pub fn new(address: Address) -> Draft
-        ensures { draft_model result ≡ begun address.number }
+        ensures { result ≡ begun address.number }
     {
         Draft {
             transfer: Transfer {
@@ -26,7 +25,7 @@ impl Draft {
 
     // The last leg gets this body.
     fn set_body(&mut self, body: Body)
-        ensures { draft_model self.new ≡ last_set (body_model body) (leg_model self.old.transfer.first) (option_map leg_model self.old.transfer.second) }
+        ensures { self.new ≡ last_set (body_model body) self.old.first self.old.second }
     {
         match &mut self.transfer.second {
             Some(leg) => leg.body = body,
@@ -36,7 +35,7 @@ impl Draft {
 
     // The last leg becomes a write of these bytes.
     pub fn write(&mut self, bytes: &[u8]) -> Result<(), Refusal>
-        ensures { (answer (λ u. u) result, draft_model self.new) ≡ write_set bytes.now (draft_model self.old) }
+        ensures { (answer (λ u. u) result, self.new) ≡ write_set bytes.now self.old }
     {
         if bytes.len() > 16 {
             return Err(Refusal::LengthOutOfRange);
@@ -47,7 +46,7 @@ impl Draft {
 
     // The last leg becomes a read of `count` bytes.
     pub fn read(&mut self, count: u32) -> Result<(), Refusal>
-        ensures { (answer (λ u. u) result, draft_model self.new) ≡ read_set count (draft_model self.old) }
+        ensures { (answer (λ u. u) result, self.new) ≡ read_set count self.old }
     {
         if count < 1 || count > 16 {
             return Err(Refusal::LengthOutOfRange);
@@ -58,7 +57,7 @@ impl Draft {
 
     // A second leg, an empty write to the address; it is then the last.
     pub fn second_leg(&mut self, address: Address) -> Result<(), Refusal>
-        ensures { (answer (λ u. u) result, draft_model self.new) ≡ second_begun address.number (draft_model self.old) }
+        ensures { (answer (λ u. u) result, self.new) ≡ second_begun address.number self.old }
     {
         if self.transfer.second.is_some() {
             return Err(Refusal::TwoLegsAlready);
@@ -68,7 +67,7 @@ impl Draft {
     }
 
     pub fn seal(self) -> Transfer
-        ensures { transfer_model result ≡ draft_model self }
+        ensures { transfer_model result ≡ self }
     {
         let Draft { transfer } = self;
         transfer
