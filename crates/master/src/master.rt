@@ -27,6 +27,8 @@ pub enum Verdict {
     Told(Outcome),
 }
 
+// Clauses see it by `master_model` and not by an `impl Model`: that would hide the range of the clock's counts, from
+// which the law of a bank of masters is proved.
 #[derive(Drop)]
 pub struct MasterState {
     clock: ClockPair,
