@@ -48,6 +48,8 @@ pub trait Masters {
     ghost clocked: { (x : Self) → Clocked hosts (stand x) };
 }
 
+// A trait apart from `Masters`, though the pulls of a bank and its reset read alike: what they mean of each part differs,
+// and a third trait over both would have more ghost members than these two methods have lines.
 pub trait Ports {
     ghost devices: { List Behaviour };
 

@@ -10,7 +10,8 @@ pub trait Host {
 
     ghost means: { Self → behaviour.Meaning };
 
-    // Whether it wants a transfer, and which; beside a `false` the transfer says nothing.
+    // Whether it wants a transfer, and which; beside a `false` the transfer says nothing. A flag and no `Option`, since it
+    // is a rule of the project that makes of host answer so.
     fn want(&self) -> (bool, Transfer)
         ensures { wanted result ≡ behaviour.want (means self.now) };
 

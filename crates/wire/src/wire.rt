@@ -9,7 +9,8 @@ pub struct Levels {
     pub sda: bool,
 }
 
-// Which lines a part, or some parts together, pull low.
+// Which lines a part, or some parts together, pull low. A type apart from `Levels`, which has the same fields: a line that
+// is pulled is low, and one type for both would let them be mixed up.
 #[derive(Clone, Copy, PartialEq, Eq, Debug)]
 pub struct Pulls {
     pub scl: bool,

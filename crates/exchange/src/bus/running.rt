@@ -12,8 +12,8 @@ use transfer::Refusal;
 const MOST_TICKS: u32 = 1_000_000;
 
 impl<M: Masters, P: Ports> Bus<M, P> {
-    // Ticks until the bus is at rest, `n` times at most. A tick has eight marks, so the outcomes told are counted by
-    // them only where there are no more masters.
+    // Ticks until the bus is at rest, `n` times at most. It counts its ticks by hand, since it is a rule of the project
+    // that a run is a loop that breaks with its counts.
     pub fn run(&mut self, n: u32) -> Result<Run, Refusal>
         ensures { (a : ℕ → Holds P.Ports.devices) × ((answer run_model result, bus_model self.new) ≡ run_at _ _ (bus_model self.old) n a) }
     {
