@@ -110,7 +110,7 @@ module _ (ds : List Behaviour) where
 
       go : (t : Bool) → (r t).kind ≡ Done → get_or (r t).bytes y 0 ≡ byte_given ds (given ds y e)
       go true k = reads_so n e y h
-      go false k = let z : ◌≡◌ {A = ℕ} 0 1 = cc in absurd (omega arith)
+      go false k = cc
 
 gave_one : (b : Behaviour) (o : ℕ) (m : b.Meaning) (y t : Bool) (k : ℕ) → digit 255 k ≡ true →
     (digit (gives b (device_in_leg b o m y t)) k ≡ true) ↔ (t ≡ true → digit (b.take m).0 k ≡ true)

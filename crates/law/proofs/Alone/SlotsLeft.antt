@@ -34,7 +34,7 @@ leaves_slots None = refl
 leaves_slots (Some g) = refl
 
 play_fewer : (p : Play) (heard : Bool) → ends (symbol_of p) ≡ false → play_slots (moves p heard) < play_slots p
-play_fewer done heard e = let z : ◌≡◌ {A = ℕ} 0 1 = cc in absurd (omega arith)
+play_fewer done heard e = cc
 play_fewer (again g) heard e = omega arith
 play_fewer (sends g o y b) heard e = grind (arith, nat_tests, leaves_slots, play_some)
 

@@ -1,5 +1,5 @@
 -- The cells of a turn: who is armed, who was marked, and what an arm changes.
-use Rattle.std.proofs.Common.{◌≡◌, ℕ, zero, suc, Bool, true, false, not, ◌&&◌, ◌||◌, eqb, List, [], ◌∷◌, get_or, is_some, Some, None, Option, sym, refl, ap, ◌∙◌, ap₂, arith}
+use Rattle.std.proofs.Common.{◌≡◌, ℕ, zero, suc, Bool, true, false, not, ◌&&◌, ◌||◌, eqb, List, [], ◌∷◌, get_or, is_some, Some, None, Option, sym, refl, ap, ◌∙◌, ap₂}
 use Rattle.master.specs.declared.symbol.Symbol.{Symbol}
 use Rattle.master.specs.Masters.{ArmingModel, unarmed, armed, MasterModel, VerdictModel, quiet, lost, arms, arm_master}
 use Rattle.master.specs.Scripts.{Script}
@@ -8,11 +8,11 @@ use Rattle.law.proofs.Law.Race.{at}
 use Rattle.law.proofs.Law.Uses.{Tasks, count, any, armed_if, arm_book, nobody, task_of, armeds, pulling, is_lost, telling, tellings, arm_masters, begin_one, begins, falses, marks_too}
 
 pub armed_same : {A : Type 0} → (o w : Option A) → is_some o ≡ true → armed_if o w ≡ o
-armed_same None w h = let z : ◌≡◌ {A = ℕ} 0 1 = cc in absurd (omega arith)
+armed_same None w h = cc
 armed_same (Some p) w h = refl
 
 some_of : {A : Type 0} (o : Option A) → is_some o ≡ true → (q : A) × (o ≡ Some q)
-some_of None h = let z : ◌≡◌ {A = ℕ} 0 1 = cc in absurd (omega arith)
+some_of None h = cc
 some_of (Some q) h = (q, refl)
 
 false_and : (b a : Bool) → a ≡ false → (b && a) ≡ false
@@ -21,11 +21,11 @@ false_and false a h = refl
 
 and_right : (b a : Bool) → (b && a) ≡ true → a ≡ true
 and_right true a h = h
-and_right false a h = let z : ◌≡◌ {A = ℕ} 0 1 = cc in absurd (omega arith)
+and_right false a h = cc
 
 mark_one : (b a c : Bool) → b ≡ true → ((b && a) || c) ≡ (b && (a || c))
 mark_one true a c h = refl
-mark_one false a c h = let z : ◌≡◌ {A = ℕ} 0 1 = cc in absurd (omega arith)
+mark_one false a c h = cc
 
 mark_out : (b : Bool) → ((b && true) || false) ≡ (b && true)
 mark_out true = refl
@@ -209,8 +209,8 @@ module _ (W : Script) where
 
   -- who is marked now was live, and whoever is live and does not pass the test was not marked
   pub note_at : (k : Symbol → W.Cursor → VerdictModel W) (cs : List (Cell W)) (i : ℕ) → get_or (notes W k cs) i quiet ≡ lost → (p : W.Cursor) × (at (cursors W cs) i ≡ Some p) × (k (W.symbol p) p ≡ lost)
-  note_at k [] i h = let z : ◌≡◌ {A = ℕ} 0 1 = cc in absurd (omega arith)
-  note_at k (out m ∷ cs) zero h = let z : ◌≡◌ {A = ℕ} 0 1 = cc in absurd (omega arith)
+  note_at k [] i h = cc
+  note_at k (out m ∷ cs) zero h = cc
   note_at k (live m p ∷ cs) zero h = (p, refl, h)
   note_at k (out m ∷ cs) (suc i) h = note_at k cs i h
   note_at k (live m p ∷ cs) (suc i) h = note_at k cs i h
@@ -218,16 +218,16 @@ module _ (W : Script) where
   pub unmarked : (f : Symbol → Bool) (l : Tasks W) (cs : List (Cell W)) (i : ℕ) (p : W.Cursor) → at (cursors W cs) i ≡ Some p → f (W.symbol p) ≡ false → get_or (marked f l cs) i false ≡ false
   unmarked f [] cs i p e h = refl
   unmarked f (o ∷ l) [] i p e h = refl
-  unmarked f (o ∷ l) (out m ∷ cs) zero p e h = let z : ◌≡◌ {A = ℕ} 0 1 = cc in absurd (omega arith)
+  unmarked f (o ∷ l) (out m ∷ cs) zero p e h = cc
   unmarked f (o ∷ l) (live m q ∷ cs) zero p e h = let z : q ≡ p = cc in false_and (is_some o) (f (W.symbol q)) (ap (λ r. f (W.symbol r)) z ∙ h)
   unmarked f (o ∷ l) (out m ∷ cs) (suc i) p e h = unmarked f l cs i p e h
   unmarked f (o ∷ l) (live m q ∷ cs) (suc i) p e h = unmarked f l cs i p e h
 
   pub contender : (l : Tasks W) (cs : List (Cell W)) → Within l cs → (i : ℕ) (p : W.Cursor) → at (cursors W cs) i ≡ Some p → (q : W.Task) × (at l i ≡ Some q)
-  contender [] [] h i p e = let z : ◌≡◌ {A = ℕ} 0 1 = cc in absurd (omega arith)
+  contender [] [] h i p e = cc
   contender [] (c ∷ cs) h i p e = absurd h
   contender (o ∷ l) [] h i p e = absurd h
-  contender (o ∷ l) (out m ∷ cs) h zero p e = let z : ◌≡◌ {A = ℕ} 0 1 = cc in absurd (omega arith)
+  contender (o ∷ l) (out m ∷ cs) h zero p e = cc
   contender (o ∷ l) (live m q ∷ cs) h zero p e = some_of o h.0
   contender (o ∷ l) (out m ∷ cs) h (suc i) p e = contender l cs h i p e
   contender (o ∷ l) (live m q ∷ cs) h (suc i) p e = contender l cs h.1 i p e
@@ -235,8 +235,8 @@ module _ (W : Script) where
   -- who was marked pulls nothing
   pub pulls_nothing : (f : Symbol → Bool) (g : MasterModel W → W.Cursor → MasterModel W) (each : (m : MasterModel W) (p : W.Cursor) → f (W.symbol p) ≡ true → ((g m p).pulls.scl || (g m p).pulls.sda) ≡ false)
       (l : Tasks W) (cs : List (Cell W)) (i : ℕ) → get_or (marked f l cs) i false ≡ true → pulling W (looks W g cs) i ≡ false
-  pulls_nothing f g each [] cs i h = let z : ◌≡◌ {A = ℕ} 0 1 = cc in absurd (omega arith)
-  pulls_nothing f g each (o ∷ l) [] i h = let z : ◌≡◌ {A = ℕ} 0 1 = cc in absurd (omega arith)
+  pulls_nothing f g each [] cs i h = cc
+  pulls_nothing f g each (o ∷ l) [] i h = cc
   pulls_nothing f g each (o ∷ l) (out m ∷ cs) zero h = refl
   pulls_nothing f g each (o ∷ l) (live m p ∷ cs) zero h = each m p (and_right (is_some o) (f (W.symbol p)) h)
   pulls_nothing f g each (o ∷ l) (out m ∷ cs) (suc i) h = pulls_nothing f g each l cs i h
@@ -266,7 +266,7 @@ module _ (W : Script) where
   arm_cells (c ∷ cs) (w ∷ ws) (suc i) = c ∷ arm_cells cs ws i
 
   arm_none : (m : MasterModel W) (a : ArmingModel W) (w : Option W.Task) → is_some (task_of W a) ≡ true → (arms W m a w).1 ≡ m
-  arm_none m unarmed w h = let z : ◌≡◌ {A = ℕ} 0 1 = cc in absurd (omega arith)
+  arm_none m unarmed w h = cc
   arm_none m (armed t) w h = refl
 
   arm_off : (m : MasterModel W) (a : ArmingModel W) (w : Option W.Task) → (arms W (off W m) a w).1 ≡ off W (arms W m a w).1

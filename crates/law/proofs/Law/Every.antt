@@ -67,16 +67,16 @@ module _ (W : Script) where
   answers (m ∷ ms) (w ∷ ws) (suc i) = answers ms ws i
 
   rise_out : (m : MasterModel W) (p : W.Cursor) (x : Symbol) (b : Bool) → early_lost b x ≡ true → ((rises W m x p b).0.pulls.scl || (rises W m x p b).0.pulls.sda) ≡ false
-  rise_out m p symbol.Zero b h = let z : ◌≡◌ {A = ℕ} 0 1 = cc in absurd (omega arith)
-  rise_out m p symbol.Listen b h = let z : ◌≡◌ {A = ℕ} 0 1 = cc in absurd (omega arith)
-  rise_out m p symbol.Stop b h = let z : ◌≡◌ {A = ℕ} 0 1 = cc in absurd (omega arith)
-  rise_out m p symbol.One true h = let z : ◌≡◌ {A = ℕ} 0 1 = cc in absurd (omega arith)
+  rise_out m p symbol.Zero b h = cc
+  rise_out m p symbol.Listen b h = cc
+  rise_out m p symbol.Stop b h = cc
+  rise_out m p symbol.One true h = cc
   rise_out m p symbol.One false h = refl
-  rise_out m p symbol.RepeatedStart true h = let z : ◌≡◌ {A = ℕ} 0 1 = cc in absurd (omega arith)
+  rise_out m p symbol.RepeatedStart true h = cc
   rise_out m p symbol.RepeatedStart false h = refl
 
   never_out : (g : MasterModel W → W.Cursor → MasterModel W) (m : MasterModel W) (p : W.Cursor) → false ≡ true → ((g m p).pulls.scl || (g m p).pulls.sda) ≡ false
-  never_out g m p h = let z : ◌≡◌ {A = ℕ} 0 1 = cc in absurd (omega arith)
+  never_out g m p h = cc
 
 -- what the invariant says of one point
 module _ (W : Script) (D : Side) (left : W.Cursor → ℕ) (Alike : W.Cursor → W.Cursor → Type 0) (Fits : W.Task → Type 0) (Rest : D.S → Type 0) where
@@ -89,7 +89,7 @@ module _ (W : Script) (D : Side) (left : W.Cursor → ℕ) (Alike : W.Cursor →
   stands_armed _ _ _ _ _ _ (high u os s0 l v sp cs k r s d c f n e j o z m g q y) = ap (λ x. armeds W x.masters) e ∙ armeds_looks W (settled W f) (λ m p. refl) cs ∙ sym g.armed
 
   busy_not : (u u' : Bus W D) {s : D.S} → u ≡ u' → u'.wire.busy ≡ true → u.wire.busy ≡ false → u.side ≡ s
-  busy_not u u' e b h = let z : true ≡ false = sym b ∙ sym (ap (λ x. x.wire.busy) e) ∙ h in let y : ◌≡◌ {A = ℕ} 0 1 = cc in absurd (omega arith)
+  busy_not u u' e b h = let z : true ≡ false = sym b ∙ sym (ap (λ x. x.wire.busy) e) ∙ h in cc
 
   stands_side : (u : Bus W D) (os : Tasks W) (s : D.S) (t : Option (Tasks W)) (w : Watch) (n : ℕ) → Stands W D left Alike Fits Rest u os s t w n → u.wire.busy ≡ false → u.side ≡ s
   stands_side _ _ _ _ _ _ (idle u os s w cs e a t g q y) h = ap (λ x. x.side) e
@@ -105,7 +105,7 @@ module _ (W : Script) (D : Side) (left : W.Cursor → ℕ) (Alike : W.Cursor →
 
   stands_out : (u : Bus W D) (os : Tasks W) (s : D.S) (t : Option (Tasks W)) (w : Watch) (n : ℕ) → Stands W D left Alike Fits Rest u os s t w n →
       is_some t ≡ true → (i : ℕ) → get_or w.marked i false ≡ true → pulling W u.masters i ≡ false
-  stands_out _ _ _ _ _ _ (idle u os s w cs e a t g q y) h i k = let z : ◌≡◌ {A = ℕ} 0 1 = cc in absurd (omega arith)
+  stands_out _ _ _ _ _ _ (idle u os s w cs e a t g q y) h i k = cc
   stands_out _ _ _ _ _ _ (claims u os s l v sp cs e m g q y) h i k = outs u (claimed_bus W D cs s) never (claimed W) (never_out W (claimed W)) l cs v i e refl m.0 k
   stands_out _ _ _ _ _ _ (begun u os s l v sp cs f n e b c m g q y) h i k = outs u (opened_bus W D cs (D.begin s) f) never (opened W f) (never_out W (opened W f)) l cs v i e refl m.0 k
   stands_out _ _ _ _ _ _ (low u os s0 l v sp cs k r s d f f' n e b b' c m g q y) h i z = outs u (low_bus W D d cs s f f') never (lowered W f') (never_out W (lowered W f')) l cs v i e refl m.0 z
@@ -175,7 +175,7 @@ module _ (W : Script) (D : Side) (left : W.Cursor → ℕ) (H : Hosts W) (Alike 
   }
     where
       nobody_armed : {X : Type 0} (j : ℕ) (t : W.Task) → at (armeds W (fresh_masters W cs)) j ≡ Some t → X
-      nobody_armed j t e = let z : None ≡ Some t = sym (made_unarmed W cs j) ∙ e in let y : ◌≡◌ {A = ℕ} 0 1 = cc in absurd (omega arith)
+      nobody_armed j t e = let z : None ≡ Some t = sym (made_unarmed W cs j) ∙ e in cc
 
 module _ (W : Script) (D : Side) (left : W.Cursor → ℕ) (H : Hosts W) (Alike : W.Cursor → W.Cursor → Type 0) (Fits : W.Task → Type 0) (Rest : D.S → Type 0) (laws : Laws W left Alike) (plays : Plays W D left H Alike Fits Rest) where
   unheard : (a : H.State) (os : Tasks W) → H.hear a (nobody os) ≡ a
@@ -254,7 +254,7 @@ module _ (W : Script) (D : Side) (left : W.Cursor → ℕ) (H : Hosts W) (Alike 
           x.told < (uses W D left H (does W D left H x (ticks t)) us).told
       go (inl z) ih = let y = g in let c = ap count (fine x n t h.0 k).tells in omega arith
       go (inr (inl z)) ih = let y = ih (ap any z.1 ∙ a) (let q = z.0 in omega arith) in omega arith
-      go (inr (inr z)) ih = let y : ◌≡◌ {A = ℕ} 0 1 = cc in absurd (omega arith)
+      go (inr (inr z)) ih = cc
 
   law_at : (x : Use W D H) (n : ℕ) → Kept W D left H Alike Fits Rest x n → Law W D left H x
   law_at x n k =

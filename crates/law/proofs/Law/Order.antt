@@ -36,8 +36,8 @@ lower_either x y = elim (leb (rank x) (rank y)) as (λ b. (cond b x y ≡ x) ⊎
 
 module _ (W : Script) where
   pub lead_least : (l : List (Option W.Cursor)) (i : ℕ) (p : W.Cursor) → at l i ≡ Some p → rank (lead W l) ≤ rank (W.symbol p)
-  lead_least [] i p e = let z : ◌≡◌ {A = ℕ} 0 1 = cc in omega arith
-  lead_least (None ∷ l) zero p e = let z : ◌≡◌ {A = ℕ} 0 1 = cc in omega arith
+  lead_least [] i p e = cc
+  lead_least (None ∷ l) zero p e = cc
   lead_least (None ∷ l) (suc i) p e = lead_least l i p e
   lead_least (Some q ∷ l) zero p e = let z : q ≡ p = cc in rw (← z) (lower_left (W.symbol q) (lead W l))
   lead_least (Some q ∷ l) (suc i) p e = omega (arith, lower_right (W.symbol q) (lead W l), lead_least l i p e)
@@ -66,9 +66,9 @@ module _ (W : Script) where
     pub rest : r ≡ W.next was b
 
   pub kept : (x : Symbol) (b : Bool) (o : Option W.Cursor) (r : W.Cursor) → keep W x b o ≡ Some r → Kept x b o r
-  kept x b None r e = let z : ◌≡◌ {A = ℕ} 0 1 = cc in absurd (omega arith)
+  kept x b None r e = cc
   kept x b (Some p) r e = go (eqb (rank x) (rank (W.symbol p))) refl e
     where
       go : (t : Bool) → eqb (rank x) (rank (W.symbol p)) ≡ t → cond t (Some (W.next p b)) None ≡ Some r → Kept x b (Some p) r
       go true d f = record { was = p; there = refl; shows = rank_inj (W.symbol p) x (sym (eqb-true (rank x) (rank (W.symbol p)) d)); rest = cc }
-      go false d f = let z : ◌≡◌ {A = ℕ} 0 1 = cc in absurd (omega arith)
+      go false d f = cc

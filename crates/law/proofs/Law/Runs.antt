@@ -35,9 +35,9 @@ eqb_swap a b = grind (arith, nat_tests)
 module _ (D : Side) where
   level : (x : Symbol) (s : D.S) → ((x ≡ Listen → ⊥) → D.pulls s ≡ false) → heard D x s ≡ not (pulls_sda x || D.pulls s)
   level Zero s h = refl
-  level One s h = rw (h (λ e. let z : ◌≡◌ {A = ℕ} 0 1 = cc in omega arith))
+  level One s h = rw (h (λ e. cc))
   level Listen s h = refl
-  level RepeatedStart s h = rw (h (λ e. let z : ◌≡◌ {A = ℕ} 0 1 = cc in omega arith))
+  level RepeatedStart s h = rw (h (λ e. cc))
   level Stop s h = refl
 
   pub after_again : (x : Symbol) (s : D.S) → rank x ≡ 2 → after D x s ≡ D.begin s
@@ -118,7 +118,7 @@ module _ (W : Script) where
   every_at Q (live m p ∷ cs) h = (h 0 p refl, every_at Q cs (λ i p e. h (suc i) p e))
 
   pub alive_at : (cs : List (Cell W)) → alive W cs ≡ true → (i : ℕ) × ((p : W.Cursor) × (at (cursors W cs) i ≡ Some p))
-  alive_at [] h = let z : ◌≡◌ {A = ℕ} 0 1 = cc in absurd (omega arith)
+  alive_at [] h = cc
   alive_at (out m ∷ cs) h = let q = alive_at cs h in (suc q.0, q.1)
   alive_at (live m p ∷ cs) h = (0, (p, refl))
 

@@ -59,6 +59,6 @@ module _ (W : Script) where
       (least_below W n cs (omega arith)))
 
   pub alive_least : (cs : List (Cell W)) → alive W cs ≡ true → least W cs ≤ 4
-  alive_least [] h = let z : ◌≡◌ {A = ℕ} 0 1 = cc in omega arith
+  alive_least [] h = cc
   alive_least (out m ∷ cs) h = alive_least cs h
   alive_least (live m p ∷ cs) h = omega (arith, rank_top (W.symbol p))

@@ -1,5 +1,5 @@
 -- The turn book as the book of the law, and that both go the same way at every call and event.
-use Rattle.std.proofs.Common.{◌≡◌, ℕ, zero, suc, Bool, true, false, cond, ◌||◌, List, [], ◌∷◌, is_some, Some, None, Option, sym, refl, ap, ◌∙◌, subst, ap₂, arith}
+use Rattle.std.proofs.Common.{◌≡◌, ℕ, zero, suc, Bool, true, false, cond, ◌||◌, List, [], ◌∷◌, is_some, Some, None, Option, sym, refl, ap, ◌∙◌, subst, ap₂}
 use Rattle.std.specs.Option.{option_map}
 use Rattle.transfer.specs.declared.draft.Transfer.{Transfer}
 use Rattle.transfer.specs.Drafts.{TransferModel, transfer_model}
@@ -83,7 +83,7 @@ arm_contenders (h ∷ hs) es zero = ap (λ o. o ∷ contenders hs es.1) (arms_co
 arm_contenders (h ∷ hs) es (suc n) = ap (λ l. contends_with h es.0 ∷ l) (arm_contenders hs es.1 n)
 
 answers_one : (h : HostBehaviour) (x : Entry h) (s : Standing) (w : Option Transfer) → WantsIf s w → (entry_arms h x s w).0 ≡ answer_if (wanted_if h (is_armed s) w) (option_map transfer_model w)
-answers_one h x armed None k = let z : ◌≡◌ {A = ℕ} 0 1 = cc in absurd (omega arith)
+answers_one h x armed None k = cc
 answers_one h x armed (Some t) k = refl
 answers_one h x unarmed None k = refl
 answers_one h x unarmed (Some t) k = refl
@@ -177,7 +177,7 @@ nobody_is [] es = refl
 nobody_is (h ∷ hs) es = ap (λ l. None ∷ l) (nobody_is hs es.1)
 
 somebody_leads : (ds : List Behaviour) (d : Bank Placed ds) (l : List (Option TransferModel)) → any l ≡ true → (q : TransferModel) × (lead ds d l ≡ Some q)
-somebody_leads ds d [] h = let z : ◌≡◌ {A = ℕ} 0 1 = cc in absurd (omega arith)
+somebody_leads ds d [] h = cc
 somebody_leads ds d (None ∷ l) h = somebody_leads ds d l h
 somebody_leads ds d (Some t ∷ l) h = (_, refl)
 
@@ -276,7 +276,7 @@ module _ (hs : List HostBehaviour) (ds : List Behaviour) where
   fed_closed es d false k = k
   fed_closed es d true k = record {
     kept = leave_kept hs es (told_at_stop hs ds (of_parts es d true) true) k.kept;
-    contended = λ t. let z : ◌≡◌ {A = ℕ} 0 1 = cc in absurd (omega arith);
+    contended = λ t. cc;
   }
 
   pub fed_sound : (b : Book hs ds) (e : Event) → Sound b → Sound (book_after hs ds b e)

@@ -53,8 +53,8 @@ entries_armed (h ∷ hs) es k = ap₂ ◌∷◌ (some_if h es.0.standing (h.want
 
 no_pull : (a b : Bool) → (a || b) ≡ false → (a ≡ false) × (b ≡ false)
 no_pull false false e = (refl, refl)
-no_pull false true e = let z : ◌≡◌ {A = ℕ} 0 1 = cc in absurd (omega arith)
-no_pull true b e = let z : ◌≡◌ {A = ℕ} 0 1 = cc in absurd (omega arith)
+no_pull false true e = cc
+no_pull true b e = cc
 
 pub pulls_none : (hs : List HostBehaviour) (ms : Bank Served hs) (i : ℕ) → pulling transfers (masters_of hs ms) i ≡ false → get_or (listed served_pulls hs ms) i no_pulls ≡ no_pulls
 pulls_none [] ms i e = refl
@@ -62,12 +62,12 @@ pulls_none (h ∷ hs) ms zero e = let p = no_pull ms.0.master.pulls.scl ms.0.mas
 pulls_none (h ∷ hs) ms (suc i) e = pulls_none hs ms.1 i e
 
 lost_mark : (k : VerdictModel transfers) → mark_of k ≡ Lost → k ≡ lost
-lost_mark quiet e = let z : ◌≡◌ {A = ℕ} 0 1 = cc in absurd (omega arith)
+lost_mark quiet e = cc
 lost_mark lost e = refl
-lost_mark (told o) e = let z : ◌≡◌ {A = ℕ} 0 1 = cc in absurd (omega arith)
+lost_mark (told o) e = cc
 
 pub lost_at : (hs : List HostBehaviour) (ms : Bank Served hs) (s : Signal) (i : ℕ) → get_or (listed (λ h. served_mark h s) hs ms) i Quiet ≡ Lost → get_or (verdicts transfers (masters_of hs ms) s) i quiet ≡ lost
-lost_at [] ms s i e = let z : ◌≡◌ {A = ℕ} 0 1 = cc in absurd (omega arith)
+lost_at [] ms s i e = cc
 lost_at (h ∷ hs) ms s zero e = lost_mark (master_step transfers ms.0.master s).1 e
 lost_at (h ∷ hs) ms s (suc i) e = lost_at hs ms.1 s i e
 

@@ -60,13 +60,13 @@ pub hold_follows : (ds : List Behaviour) (p : Bank PortModel ds) (e : Event) (o 
     (e ≡ Fall → longest_hold ds p ≡ 0) →
     longest_hold ds (ports_step ds p (record { event = e; bit = o; idle = i }) a) ≡
     hold_after (longest_hold ds p) e o (asked_hold e o (longest_hold ds (ports_step ds p (record { event = e; bit = o; idle = i }) a)))
-hold_follows ds p Fall None i a h = still ds p Fall None i a (λ k. let z : ◌≡◌ {A = ℕ} 0 1 = cc in absurd (omega arith)) refl ∙ h refl
+hold_follows ds p Fall None i a h = still ds p Fall None i a (λ k. cc) refl ∙ h refl
 hold_follows ds p Fall (Some x) i a h = refl
 hold_follows ds p SteadyLow o i a h = lowered ds p o i a
-hold_follows ds p Start o i a h = still ds p Start o i a (λ k. let z : ◌≡◌ {A = ℕ} 0 1 = cc in absurd (omega arith)) refl
-hold_follows ds p Stop o i a h = still ds p Stop o i a (λ k. let z : ◌≡◌ {A = ℕ} 0 1 = cc in absurd (omega arith)) refl
-hold_follows ds p SteadyHigh o i a h = still ds p SteadyHigh o i a (λ k. let z : ◌≡◌ {A = ℕ} 0 1 = cc in absurd (omega arith)) refl
-hold_follows ds p (Rise x) o i a h = still ds p (Rise x) o i a (λ k. let z : ◌≡◌ {A = ℕ} 0 1 = cc in absurd (omega arith)) refl
+hold_follows ds p Start o i a h = still ds p Start o i a (λ k. cc) refl
+hold_follows ds p Stop o i a h = still ds p Stop o i a (λ k. cc) refl
+hold_follows ds p SteadyHigh o i a h = still ds p SteadyHigh o i a (λ k. cc) refl
+hold_follows ds p (Rise x) o i a h = still ds p (Rise x) o i a (λ k. cc) refl
 
 module _ (b : Behaviour) where
   small_if : (t : Bool) (p q : PortModel b) → p.hold ≤ 255 → q.hold ≤ 255 → (cond t p q).hold ≤ 255

@@ -35,13 +35,13 @@ use Rattle.law.proofs.View.Used.{used_as, Good, event_seen, told_seen, arm_answe
 use Rattle.law.proofs.View.Watched.{noted_as, watched_as}
 
 legal_at : (l : List (Option TransferModel)) (i : ℕ) (t : TransferModel) → AllLegal l → at l i ≡ Some t → Legal t
-legal_at [] i t k e = let z : ◌≡◌ {A = ℕ} 0 1 = cc in absurd (omega arith)
+legal_at [] i t k e = cc
 legal_at (o ∷ l) zero t k e = subst LegalIf e k.0
 legal_at (o ∷ l) (suc i) t k e = legal_at l i t k.1 e
 
 turn_open : (v : Bool) (l m : List (Option TransferModel)) → turn_if v l ≡ Some m → (v ≡ true) × (l ≡ m)
 turn_open true l m e = (refl, let f : l ≡ m = cc in f)
-turn_open false l m e = let z : ◌≡◌ {A = ℕ} 0 1 = cc in absurd (omega arith)
+turn_open false l m e = cc
 
 turn_some : (v : Bool) (l : List (Option TransferModel)) → v ≡ true → is_some (turn_if v l) ≡ true
 turn_some true l e = refl
@@ -49,7 +49,7 @@ turn_some false l e = e
 
 turn_is : (v : Bool) (l : List (Option TransferModel)) → v ≡ true → turn_if v l ≡ Some l
 turn_is true l e = refl
-turn_is false l e = let z : ◌≡◌ {A = ℕ} 0 1 = cc in absurd (omega arith)
+turn_is false l e = cc
 
 module _ (hs : List HostBehaviour) (ds : List Behaviour) where
   abbrev Lawful : Use hs ds → Type 0

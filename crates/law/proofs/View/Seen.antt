@@ -56,8 +56,8 @@ module _ (hs : List HostBehaviour) (ds : List Behaviour) where
   falls_from_high a b e = high a.scl b.scl a.sda b.sda e where
     high : (c d x y : Bool) → moved c d x y ≡ Fall → c ≡ true
     high true d x y e = refl
-    high false true x y e = let z : ◌≡◌ {A = ℕ} 0 1 = cc in absurd (omega arith)
-    high false false x y e = let z : ◌≡◌ {A = ℕ} 0 1 = cc in absurd (omega arith)
+    high false true x y e = cc
+    high false false x y e = cc
 
   -- what the ports are asked for in the next tick
   abbrev pub answer_at : BusModel hs ds → Holds ds → ℕ
@@ -110,5 +110,5 @@ module _ (hs : List HostBehaviour) (ds : List Behaviour) where
         kept true true false true n o h e = refl
         kept true true false false n o h e = refl
         kept false true x y n o h e = refl
-        kept true false x y n o h e = let z : ◌≡◌ {A = ℕ} 0 1 = cc in absurd (omega arith)
-        kept false false x y n o h e = let z : ◌≡◌ {A = ℕ} 0 1 = cc in absurd (omega arith)
+        kept true false x y n o h e = cc
+        kept false false x y n o h e = cc
