@@ -1,5 +1,5 @@
 -- The turn book: who is armed, who contends, and what each host and device means, by turns alone. Assumes nothing.
-use Rattle.std.specs.Prelude.{ℕ, zero, suc, Bool, true, false, cond, ◌||◌, List, [], ◌∷◌, Some, None, Ok, Err, Option, Result}
+use Rattle.std.specs.Prelude.{ℕ, zero, suc, Bool, true, false, cond, List, [], ◌∷◌, Some, None, Ok, Err, Option, Result}
 use Rattle.std.specs.Option.{option_map}
 use Rattle.transfer.specs.declared.draft.Transfer.{Transfer}
 use Rattle.transfer.specs.Drafts.{TransferModel, transfer_model}
@@ -8,7 +8,7 @@ use Rattle.device.specs.Behaviours.{Behaviour}
 use Rattle.host.specs.Behaviours.{HostBehaviour}
 use Rattle.wire.specs.declared.wire.Event.{Event}
 use Rattle.wire.specs.declared.wire.Event.TheVariants.{Rise, Fall, Start, Stop, SteadyHigh, SteadyLow}
-use Rattle.law.specs.Banks.{Bank, each, listed}
+use Rattle.law.specs.Banks.{Bank, each, listed, any_true}
 use Rattle.law.specs.Carrying.{Placed, Carried, carried}
 use Rattle.law.specs.Strings.{same_string, first_or_same}
 
@@ -59,10 +59,6 @@ abbrev pub entry_arm_nth : (hs : List HostBehaviour) → Bank Entry hs → ℕ �
 entry_arm_nth [] p n = (Err 5, tt)
 entry_arm_nth (h ∷ hs) p zero = let a = entry_arms h p.0 p.0.standing (h.want p.0.meaning) in (a.0, (a.1, p.1))
 entry_arm_nth (h ∷ hs) p (suc n) = let a = entry_arm_nth hs p.1 n in (a.0, (p.0, a.1))
-
-abbrev pub any_true : List Bool → Bool
-any_true [] = false
-any_true (v ∷ vs) = v || any_true vs
 
 -- what each master is told, in their order
 abbrev pub leave_all : (hs : List HostBehaviour) → Bank Entry hs → List (Option OutcomeModel) → Bank Entry hs

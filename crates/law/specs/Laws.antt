@@ -1,13 +1,14 @@
 -- The law over every use of a bus, in the words of turns, strings and the turn book. Assumes nothing.
 use Rattle.std.specs.Prelude.{◌≡◌, ℕ, zero, suc, ◌+◌, ◌<◌, ◌≤◌, Bool, true, false, cond, not, ◌||◌, ◌↔◌, List, [], ◌∷◌, ◌++◌, length, get_or, is_some, is_ok, Some, None, Ok, Option, Result, nat_lt, slice_index_or}
+use Rattle.std.specs.List.{count_by}
 use Rattle.device.specs.Behaviours.{Behaviour}
 use Rattle.host.specs.Behaviours.{HostBehaviour}
 use Rattle.master.specs.declared.mark.Mark.{Mark}
 use Rattle.master.specs.declared.mark.Mark.TheVariants.{Quiet, Told, Lost}
 use Rattle.wire.specs.declared.wire.Event.{Event}
 use Rattle.wire.specs.declared.wire.Event.TheVariants.{Rise, Fall, Start, Stop, SteadyHigh, SteadyLow}
-use Rattle.law.specs.Banks.{Bank, each, listed}
-use Rattle.law.specs.Books.{unarmed, Entry, standing_of, any_true, Book, book_arm, book_tells, book_after, contests, least}
+use Rattle.law.specs.Banks.{Bank, each, listed, any_true}
+use Rattle.law.specs.Books.{unarmed, Entry, standing_of, Book, book_arm, book_tells, book_after, contests, least}
 use Rattle.law.specs.Buses.{BusModel, Holds, made, arm_at, levels_at, tick_at, told_at, is_at_rest}
 use Rattle.master.specs.Serving.{Served, served_armed, served_mark, served_pulls}
 use Rattle.law.specs.Carrying.{Placed, Carried}
@@ -59,8 +60,7 @@ abbrev pub notes_lost : Watch → List Mark → Watch
 notes_lost w ks = watching w.falls w.risen (marked_too w.marked ks) w.latch w.spelled
 
 abbrev pub how_many_true : List Bool → ℕ
-how_many_true [] = 0
-how_many_true (v ∷ vs) = cond v 1 0 + how_many_true vs
+how_many_true vs = count_by (λ v. v) vs
 
 -- index c is the first at which u differs from t, and there t comes first
 pub record FirstDifference (t u : List Letter) (c : ℕ) : Type 0 where

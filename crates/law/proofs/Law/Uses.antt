@@ -1,5 +1,6 @@
 -- Every use of a bus: the bus with its hosts, the book beside it, and what a watcher of the ticks notes.
 use Rattle.std.proofs.Common.{◌≡◌, ℕ, zero, suc, ◌+◌, ◌<◌, ◌≤◌, Bool, true, false, cond, not, ◌&&◌, ◌||◌, eqb, List, [], ◌∷◌, ◌++◌, get_or, is_some, Some, None, Ok, Err, Option, Result}
+use Rattle.std.specs.List.{list_any}
 use Rattle.wire.specs.declared.wire.Event.{Event}
 use Rattle.wire.specs.declared.wire.Event.TheVariants.{Rise, Fall, Start, Stop, SteadyHigh, SteadyLow}
 use Rattle.master.specs.Masters.{ArmingModel, unarmed, armed, MasterModel, VerdictModel, quiet, lost, told, new_master, arm_master}
@@ -45,8 +46,7 @@ count (None ∷ l) = count l
 count (Some a ∷ l) = suc (count l)
 
 abbrev pub any : {A : Type 0} → List (Option A) → Bool
-any [] = false
-any (o ∷ l) = is_some o || any l
+any l = list_any is_some l
 
 -- arm, by the table: no such master, armed already, nothing wanted
 abbrev pub answer_if : {A : Type 0} → Option A → Option A → Answer

@@ -8,8 +8,8 @@ use Rattle.device.specs.Behaviours.{Behaviour}
 use Rattle.host.specs.Behaviours.{HostBehaviour}
 use Rattle.wire.specs.declared.wire.Event.{Event}
 use Rattle.wire.specs.declared.wire.Event.TheVariants.{Rise, Fall, Start, Stop, SteadyHigh, SteadyLow}
-use Rattle.law.specs.Banks.{Bank, each, listed}
-use Rattle.law.specs.Books.{any_true, Standing, unarmed, armed, is_armed, Entry, standing_of, entry_arms, enters, wanted_if, contends_with, leaves, entry_arm_nth, leave_all, least, told_all, devices_after, Book, book_arm, contests, opens, told_at_stop, closes, book_tells, book_after}
+use Rattle.law.specs.Banks.{Bank, each, listed, any_true}
+use Rattle.law.specs.Books.{Standing, unarmed, armed, is_armed, Entry, standing_of, entry_arms, enters, wanted_if, contends_with, leaves, entry_arm_nth, leave_all, least, told_all, devices_after, Book, book_arm, contests, opens, told_at_stop, closes, book_tells, book_after}
 use Rattle.law.specs.Carrying.{Placed, carried}
 use Rattle.port.specs.Ports.{PortModel}
 use Rattle.master.specs.Scripts.{transfers}

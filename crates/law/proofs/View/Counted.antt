@@ -1,12 +1,13 @@
 -- Who is armed, who pulls and who is marked, bank by list; and what a run counts.
-use Rattle.std.proofs.Common.{◌≡◌, ℕ, zero, suc, ◌+◌, Bool, true, false, cond, ◌||◌, List, [], ◌∷◌, map, get_or, is_some, Some, None, Option, refl, ap, ap₂, arith}
+use Rattle.std.proofs.lemmas.List.Folds.{fold-map}
+use Rattle.std.proofs.Common.{◌≡◌, ℕ, zero, suc, ◌+◌, Bool, true, false, cond, ◌||◌, List, [], ◌∷◌, map, get_or, is_some, Some, None, Option, refl, ap, ap₂, arith, ◌∙◌, sym}
 use Rattle.transfer.specs.declared.draft.Transfer.{Transfer}
 use Rattle.device.specs.Behaviours.{Behaviour}
 use Rattle.host.specs.Behaviours.{HostBehaviour}
 use Rattle.master.specs.declared.mark.Mark.TheVariants.{Quiet, Lost}
 use Rattle.wire.specs.declared.wire.Signal.{Signal}
-use Rattle.law.specs.Banks.{Bank, each, listed}
-use Rattle.law.specs.Books.{any_true, Standing, unarmed, armed, is_armed, Entry, standing_of, wanted_if}
+use Rattle.law.specs.Banks.{Bank, each, listed, any_true}
+use Rattle.law.specs.Books.{Standing, unarmed, armed, is_armed, Entry, standing_of, wanted_if}
 use Rattle.law.specs.Buses.{Holds, tick_at, told_at, is_at_rest}
 use Rattle.master.specs.Serving.{Served, is_armed as arming_armed, served_armed, served_mark, served_pulls, mark_of}
 use Rattle.law.specs.Carrying.{Placed}
@@ -21,14 +22,13 @@ use Rattle.law.proofs.Law.Machine.{verdicts}
 use Rattle.law.proofs.Law.Uses.{any, count, armeds, task_of, pulling}
 use Rattle.law.proofs.View.Booked.{tasks, WantsIf, Kept}
 use Rattle.law.proofs.View.Seen.{masters_of}
+use Rattle.law.proofs.View.Watched.{how_many_is}
 
 abbrev pub somes : {A : Type 0} → List (Option A) → List Bool
 somes l = map is_some l
 
 pub count_somes : {A : Type 0} (l : List (Option A)) → count l ≡ how_many_true (somes l)
-count_somes [] = refl
-count_somes (None ∷ l) = let e = count_somes l in omega arith
-count_somes (Some a ∷ l) = let e = count_somes l in omega arith
+count_somes l = sym (fold-map (λ n v. n + cond v 1 0) is_some 0 l ∙ how_many_is l)
 
 pub any_somes : {A : Type 0} (l : List (Option A)) → any l ≡ any_true (somes l)
 any_somes [] = refl

@@ -7,8 +7,8 @@ use Rattle.device.specs.Behaviours.{Behaviour}
 use Rattle.host.specs.Behaviours.{HostBehaviour}
 use Rattle.master.specs.declared.mark.Mark.TheVariants.{Quiet, Lost}
 use Rattle.wire.specs.declared.wire.Event.TheVariants.{Stop}
-use Rattle.law.specs.Banks.{listed}
-use Rattle.law.specs.Books.{any_true, standing_of, Book, book_arm, contests, least}
+use Rattle.law.specs.Banks.{listed, any_true}
+use Rattle.law.specs.Books.{standing_of, Book, book_arm, contests, least}
 use Rattle.law.specs.Buses.{Holds, arm_at, levels_at, told_at}
 use Rattle.law.specs.Carrying.{Carried}
 use Rattle.law.specs.Laws.{Call, runs, Use, event_at, marks_of, watched, calls, used, run_on, ticks_of_run, ticks_of_call, ticks_of, armed_now, how_many_true, Point, Loses, Stopped, TickLaw, Law}

@@ -1,13 +1,14 @@
 -- What the watcher notes, as the watcher of the law notes it.
-use Rattle.std.proofs.Common.{◌≡◌, ℕ, zero, suc, Bool, true, false, cond, ◌||◌, List, [], ◌∷◌, ◌++◌, map, Some, None, Option, sym, refl, ap, ◌∙◌, ap₂, arith}
+use Rattle.std.proofs.lemmas.List.Sums.{sum_by-cons}
+use Rattle.std.proofs.Common.{◌≡◌, ℕ, zero, suc, Bool, true, false, cond, ◌||◌, List, [], ◌∷◌, ◌++◌, map, Some, None, Option, sym, refl, ap, ◌∙◌, ap₂, arith, is_some}
 use Rattle.transfer.specs.Drafts.{TransferModel}
 use Rattle.device.specs.Behaviours.{Behaviour}
 use Rattle.host.specs.Behaviours.{HostBehaviour}
 use Rattle.wire.specs.declared.wire.Event.{Event}
 use Rattle.wire.specs.declared.wire.Event.TheVariants.{Rise, Fall, Start, Stop, SteadyHigh, SteadyLow}
 use Rattle.wire.specs.declared.wire.Signal.{Signal}
-use Rattle.law.specs.Banks.{Bank, each, listed}
-use Rattle.law.specs.Books.{any_true, Entry, enters, standing_of, Book, book_after}
+use Rattle.law.specs.Banks.{Bank, each, listed, any_true}
+use Rattle.law.specs.Books.{Entry, enters, standing_of, Book, book_after}
 use Rattle.master.specs.Serving.{Served, served_mark, served_told, mark_of, outcome_told}
 use Rattle.law.specs.Laws.{Watch, watching, sees, starts_again, is_lost, marked_too, watched}
 use Rattle.master.specs.Masters.{VerdictModel, quiet, lost, told, master_step}
@@ -102,5 +103,5 @@ told_as (h ∷ hs) ms s = ap₂ ◌∷◌ (told_one (master_step transfers ms.0.
 
 pub how_many_is : {A : Type 0} (l : List (Option A)) → how_many l ≡ count l
 how_many_is [] = refl
-how_many_is (None ∷ l) = let e = how_many_is l in omega arith
-how_many_is (Some a ∷ l) = let e = how_many_is l in omega arith
+how_many_is (None ∷ l) = how_many_is l
+how_many_is (Some a ∷ l) = omega (arith, how_many_is l, sum_by-cons (λ o. cond (is_some o) 1 0) (Some a) l)
