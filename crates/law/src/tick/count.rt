@@ -13,7 +13,7 @@ impl Tick {
     {
         self.marks
             .iter()
-            .filter(|mark| **mark == Mark::Told)
-            .count() as u32
+            .map(|mark| u32::from(*mark == Mark::Told))
+            .sum()
     }
 }
