@@ -6,11 +6,11 @@ use Rattle.transfer.specs.declared.leg.Direction.{Direction}
 use Rattle.transfer.specs.declared.leg.Direction.TheVariants.{Write, Read}
 use Rattle.transfer.specs.declared.outcome.OutcomeKind.TheVariants.{Done, NoAnswer, Refused}
 use Rattle.device.specs.Behaviours.{Behaviour}
-use Rattle.law.specs.Banks.{Bank, each}
+use Rattle.law.specs.Banks.{Bank, each, Every}
 use Rattle.law.specs.Carrying.{Placed, Taking, selected, put_to, taken_from, gives, byte_levels, Passed, ends, after_byte, somebody, written, read, passed}
 use Rattle.wire.specs.Octets.{digit}
 use Rattle.port.specs.Ports.{answers_to}
-use Rattle.law.specs.Facts.{Exists, Every, having, given, byte_given, write_leg, read_leg, Accepts, Only, ByteLaws}
+use Rattle.law.specs.Facts.{Exists, having, given, byte_given, write_leg, read_leg, Accepts, Only, ByteLaws}
 use Rattle.law.proofs.Alone.Banks.{any}
 use Rattle.law.proofs.Alone.Octets.{ones, digit_and}
 use Rattle.law.proofs.Alone.Phases.{device_in_leg, called_for, put_to_all}
