@@ -1,5 +1,5 @@
 -- The cells of a turn: who is armed, who was marked, and what an arm changes.
-use Rattle.std.proofs.Common.{◌≡◌, ℕ, zero, suc, Bool, true, false, not, ◌&&◌, ◌||◌, eqb, List, [], ◌∷◌, get_or, is_some, Some, None, Option, sym, refl, ap, ◌∙◌, ap₂}
+use Rattle.std.proofs.Common.{◌≡◌, ℕ, zero, suc, Bool, true, false, not, ◌&&◌, ◌||◌, eqb, List, [], ◌∷◌, get_or, is_some, Some, None, Option, sym, refl, ap, ◌∙◌, ap₂, map}
 use Rattle.master.specs.declared.symbol.Symbol.{Symbol}
 use Rattle.master.specs.Masters.{ArmingModel, unarmed, armed, MasterModel, VerdictModel, quiet, lost, arms, arm_master}
 use Rattle.master.specs.Scripts.{Script}
@@ -40,8 +40,7 @@ never x = false
 
 module _ (W : Script) where
   abbrev pub cell_armeds : List (Cell W) → Tasks W
-  cell_armeds [] = []
-  cell_armeds (c ∷ cs) = task_of W (who W c).arming ∷ cell_armeds cs
+  cell_armeds cs = map (λ c. task_of W (who W c).arming) cs
 
   -- who is live is armed
   abbrev pub Holding : List (Cell W) → Type 0

@@ -46,8 +46,7 @@ module _ (ds : List Behaviour) (d : Bank Placed ds) where
   carry t = carried ds t d
 
   abbrev pub carry_all : List (Option TransferModel) → List (Option (Carried ds))
-  carry_all [] = []
-  carry_all (o ∷ l) = option_map carry o ∷ carry_all l
+  carry_all l = map (option_map carry) l
 
   pub agrees : (t : TransferModel) → Legal t → Agrees ds t d (slots_left (opening_of t))
   agrees t k = carried_alone ds t d (slots_left (opening_of t)) k (le_refl (slots_left (opening_of t)))
