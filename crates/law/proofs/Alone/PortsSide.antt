@@ -9,7 +9,7 @@ use Rattle.wire.specs.declared.wire.Event.TheVariants.{Rise, Fall, Start, Stop, 
 use Rattle.wire.specs.declared.wire.Signal.{Signal}
 use Rattle.law.specs.Banks.{Bank, each, listed}
 use Rattle.law.specs.Buses.{all_pulls, Holds, ports_step}
-use Rattle.port.specs.Ports.{port_new, PortModel, part, mode_pulls, port_pulls, answers_to, direction_of, goes, selects, called, puts, reads_on, counts, settles, new_port}
+use Rattle.port.specs.Ports.{PortModel, part, mode_pulls, port_pulls, answers_to, direction_of, goes, selects, called, puts, reads_on, counts, settles, new_port}
 use Rattle.law.specs.Carrying.{Placed}
 use Rattle.wire.specs.Octets.{shifted}
 use Rattle.law.proofs.Sides.{Side}
@@ -80,9 +80,6 @@ module _ (b : Behaviour) where
   unheld_counts p (Reading y) x h = let m = Reading (part (suc y.bits) y.value) in let a = b.take p.meaning in
       unheld_cond (ltb y.bits 8) (goes b p m) (reads_on b p x a h) (goes b (unheld b p) m) (reads_on b (unheld b p) x a 0) refl (unheld_reads p x a h)
 
-  pub unheld_settles : (p : PortModel b) (m : Mode) → unheld b (settles b p m) ≡ settles b (unheld b p) m
-  unheld_settles p m = refl
-
 follows : (ds : List Behaviour) (s : Bank PortModel ds) (e : Event) (o : Option Bool) (i : Bool) (a : Holds ds) →
     each unheld ds (ports_step ds s (record { event = e; bit = o; idle = i }) a) ≡ side_sees ds e o (each unheld ds s)
 follows [] s Start o i a = refl
@@ -108,12 +105,3 @@ side_follows ds s v a = follows ds s v.event v.bit v.idle a
 pub side_pulls : (ds : List Behaviour) (s : Bank PortModel ds) → (all_pulls (listed port_pulls ds s)).sda ≡ (ports_side ds).pulls (each unheld ds s)
 side_pulls [] s = refl
 side_pulls (b ∷ ds) s = ap (λ r. mode_pulls s.0.mode || r) (side_pulls ds s.1)
-
--- where a port is, and what its device means
-abbrev pub placed : (b : Behaviour) → PortModel b → Placed b
-placed b p = record { address = p.address; meaning = p.meaning }
-
--- ports of a new bus are idle
-pub new_ports_idle : (ds : List Behaviour) (s : Bank PortModel ds) → each port_new ds s ≡ idle_ports ds (each placed ds s)
-new_ports_idle [] s = refl
-new_ports_idle (b ∷ ds) s = ap (λ r. (port_new b s.0, r)) (new_ports_idle ds s.1)

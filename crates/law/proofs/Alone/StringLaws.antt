@@ -1,5 +1,6 @@
 -- The laws of strings: one stop, at the end; at most 308 letters; none begins another; the string says the outcome.
 use Rattle.std.proofs.Common.{◌≡◌, ℕ, suc, ◌≤◌, Bool, true, false, cond, ltb, ◌⊎◌, List, [], ◌∷◌, ◌++◌, map, length, get_or, Some, None, Option, sym, refl, ap, ◌∙◌, inl, inr, append_assoc, le_refl, arith}
+use Rattle.std.proofs.Math.Seq.{get_or-append_seam}
 use lib.ListN.{length-map}
 use Rattle.std.proofs.lemmas.Bool.{cases_eq, eq-eqb, ne_eqb}
 use Rattle.transfer.specs.declared.outcome.OutcomeKind.{OutcomeKind}
@@ -110,10 +111,6 @@ zero_against_one one stop d h k = absurd (k.no_stop refl)
 zero_against_one one restart d h k = absurd (k.no_restart refl)
 zero_against_one one one d h k = absurd (d refl)
 
-letter_at : (ts : List Letter) (t : Letter) (us : List Letter) → get_or (ts ++ (t ∷ us)) (length ts) stop ≡ t
-letter_at [] t us = refl
-letter_at (r ∷ ts) t us = letter_at ts t us
-
 bits_or_same : (t u : Letter) → (t ≡ u → ⊥) → condition t ≡ condition u → ZeroAgainstOne t u
 bits_or_same Letter.zero Letter.zero d e = absurd (d refl)
 bits_or_same Letter.zero stop d e = absurd (d (cc))
@@ -134,8 +131,8 @@ bits_or_same one one d e = absurd (d refl)
 
 bits_decide : (ts us : List Letter) (p : Parting ts us) → SameConditions ts us → ZeroAgainstOne p.one_letter p.other_letter
 bits_decide ts us p h = let k = length p.front in
-    let a : get_or ts k stop ≡ p.one_letter = ap (λ r. get_or r k stop) p.one_is ∙ letter_at p.front p.one_letter p.one_rest in
-    let b : get_or us k stop ≡ p.other_letter = ap (λ r. get_or r k stop) p.other_is ∙ letter_at p.front p.other_letter p.other_rest in
+    let a : get_or ts k stop ≡ p.one_letter = ap (λ r. get_or r k stop) p.one_is ∙ get_or-append_seam p.front p.one_letter p.one_rest stop in
+    let b : get_or us k stop ≡ p.other_letter = ap (λ r. get_or r k stop) p.other_is ∙ get_or-append_seam p.front p.other_letter p.other_rest stop in
     bits_or_same p.one_letter p.other_letter p.differ (sym (ap condition a) ∙ h k ∙ ap condition b)
 
 first_by_letter : (ts : List Letter) (t u : Letter) (vs ws : List Letter) → (t ≡ u → ⊥) → first_or_same (ts ++ (t ∷ vs)) (ts ++ (u ∷ ws)) ≡ ltb (rank t) (rank u)

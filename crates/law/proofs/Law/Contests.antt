@@ -1,5 +1,6 @@
 -- What a turn's slots say of the least string: who leads, who loses and when, and what the stop tells.
-use Rattle.std.proofs.Common.{◌≡◌, ℕ, zero, suc, ◌+◌, ◌<◌, ◌≤◌, Bool, true, false, cond, ◌&&◌, eqb, leb, ◌⊎◌, List, [], ◌∷◌, ◌++◌, length, take, is_some, Some, None, Option, sym, refl, ap, ◌∙◌, subst, ap₂, inl, inr, arith, take_all, take-suc}
+use Rattle.std.proofs.Common.{◌≡◌, ℕ, zero, suc, ◌+◌, ◌<◌, ◌≤◌, Bool, true, false, cond, eqb, leb, ◌⊎◌, List, [], ◌∷◌, ◌++◌, length, take, is_some, Some, None, Option, sym, refl, ap, ◌∙◌, subst, ap₂, inl, inr, arith, take_all, take-suc}
+use Rattle.std.specs.Cmp.Lexicographic.{same_text}
 use Rattle.std.proofs.lemmas.Bool.{cases_lt, cases_Bool, leb-true, leb-false, eqb-true, eq-eqb}
 use Rattle.master.specs.Scripts.{Script}
 use Rattle.law.proofs.Sides.{Side, ends, heard, after, final}
@@ -12,14 +13,7 @@ use Rattle.law.proofs.Law.Wins.{Arbitrated, settled, lexb_anti, most, common_who
 use Rattle.law.proofs.Law.Runs.{Run, slots_last, spelled, rank_ends, after_stop}
 
 pub same_of : (t u : List ℕ) → same t u ≡ true → t ≡ u
-same_of [] [] h = refl
-same_of [] (u ∷ us) h = cc
-same_of (t ∷ ts) [] h = cc
-same_of (t ∷ ts) (u ∷ us) h = go (eqb t u) refl h (same_of ts us)
-  where
-    go : (v : Bool) → eqb t u ≡ v → (v && same ts us) ≡ true → (same ts us ≡ true → ts ≡ us) → (t ∷ ts) ≡ (u ∷ us)
-    go true e d ih = ap₂ ◌∷◌ (eqb-true t u e) (ih d)
-    go false e d ih = cc
+same_of t u h = same_text t u (sym h)
 
 same_refl : (t : List ℕ) → same t t ≡ true
 same_refl [] = refl

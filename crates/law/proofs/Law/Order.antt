@@ -1,5 +1,6 @@
 -- Symbols by their ranks, the leading symbol, and who is kept.
 use Rattle.std.proofs.Common.{◌≡◌, ℕ, zero, suc, ◌≤◌, Bool, true, false, cond, eqb, leb, ◌⊎◌, List, [], ◌∷◌, Some, None, Option, sym, refl, ap, ◌∙◌, inl, inr, arith}
+use Rattle.std.proofs.Math.ListN.{get_or-map}
 use Rattle.std.proofs.lemmas.Bool.{eqb-true}
 use Rattle.std.proofs.lemmas.Bool.Decides.{nat_tests}
 use Rattle.master.specs.declared.symbol.Symbol.{Symbol}
@@ -55,9 +56,7 @@ module _ (W : Script) where
   ]
 
   pub at_keep : (x : Symbol) (b : Bool) (l : List (Option W.Cursor)) (i : ℕ) → at (keep_all W x b l) i ≡ keep W x b (at l i)
-  at_keep x b [] i = refl
-  at_keep x b (p ∷ l) zero = refl
-  at_keep x b (p ∷ l) (suc i) = at_keep x b l i
+  at_keep x b l i = get_or-map (keep W x b) l i None
 
   pub record Kept (x : Symbol) (b : Bool) (o : Option W.Cursor) (r : W.Cursor) : Type 0 where
     pub was : W.Cursor

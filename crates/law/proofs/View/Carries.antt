@@ -1,5 +1,6 @@
 -- Who leads by the letters of carried alone is who leads slot by slot.
-use Rattle.std.proofs.Common.{◌≡◌, ℕ, Bool, true, false, cond, ◌&&◌, eqb, ltb, List, [], ◌∷◌, map, Some, None, Option, sym, refl, ap, ◌∙◌, subst, ap₂, le_refl}
+use Rattle.std.proofs.Common.{◌≡◌, ℕ, Bool, true, false, cond, eqb, ltb, List, [], ◌∷◌, map, Some, None, Option, sym, refl, ap, ◌∙◌, subst, ap₂, le_refl}
+use Rattle.std.specs.Cmp.Derive.Mapped.{pointwise-map}
 use Rattle.std.specs.Option.{option_map}
 use Rattle.transfer.specs.Drafts.{TransferModel}
 use Rattle.device.specs.Behaviours.{Behaviour}
@@ -25,10 +26,7 @@ lexb_ranks (t ∷ ts) [] = refl
 lexb_ranks (t ∷ ts) (u ∷ us) = ap (λ v. cond (eqb (rank t) (rank u)) v (ltb (rank t) (rank u))) (lexb_ranks ts us)
 
 pub same_ranks : (ts us : List Letter) → same (map rank ts) (map rank us) ≡ same_string ts us
-same_ranks [] [] = refl
-same_ranks [] (u ∷ us) = refl
-same_ranks (t ∷ ts) [] = refl
-same_ranks (t ∷ ts) (u ∷ us) = ap (λ v. eqb (rank t) (rank u) && v) (same_ranks ts us)
+same_ranks ts us = pointwise-map rank eqb ts us
 
 abbrev pub LegalIf : Option TransferModel → Type 0
 LegalIf None = Unit {0}
