@@ -1,17 +1,15 @@
 -- All ports as the far side that a script is played against, and how it follows the ports at each event.
-use Rattle.std.proofs.Common.{◌≡◌, ℕ, suc, ◌/◌, ◌%◌, Bool, true, false, cond, ◌||◌, eqb, ltb, List, [], ◌∷◌, Some, None, Option, refl, ap}
-use Rattle.transfer.specs.declared.leg.Direction.TheVariants.{Write, Read}
+use Rattle.std.proofs.Common.{◌≡◌, ℕ, Bool, cond, ◌||◌, List, [], ◌∷◌, Some, None, Option, refl, ap, arith}
 use Rattle.device.specs.Behaviours.{Behaviour}
 use Rattle.port.specs.declared.port.Mode.{Mode}
-use Rattle.port.specs.declared.port.Mode.TheVariants.{Out, Addressing, Writing, Acknowledging, Reading}
+use Rattle.port.specs.declared.port.Mode.TheVariants.{Out, Addressing}
 use Rattle.wire.specs.declared.wire.Event.{Event}
 use Rattle.wire.specs.declared.wire.Event.TheVariants.{Rise, Fall, Start, Stop, SteadyHigh, SteadyLow}
 use Rattle.wire.specs.declared.wire.Signal.{Signal}
 use Rattle.law.specs.Banks.{Bank, each, listed}
 use Rattle.law.specs.Buses.{all_pulls, Holds, ports_step}
-use Rattle.port.specs.Ports.{PortModel, part, mode_pulls, port_pulls, answers_to, direction_of, goes, selects, called, puts, reads_on, counts, settles, new_port}
+use Rattle.port.specs.Ports.{PortModel, part, mode_pulls, port_pulls, reads_on, counts, settles, new_port}
 use Rattle.law.specs.Carrying.{Placed}
-use Rattle.wire.specs.Octets.{shifted}
 use Rattle.law.proofs.Sides.{Side}
 use Rattle.law.proofs.Alone.Banks.{any}
 
@@ -59,26 +57,14 @@ side_sees ds (Rise x) o s = s
 
 module _ (b : Behaviour) where
   unheld_cond : (t : Bool) (p q r s : PortModel b) → unheld b p ≡ r → unheld b q ≡ s → unheld b (cond t p q) ≡ cond t r s
-  unheld_cond true p q r s e f = e
-  unheld_cond false p q r s e f = f
+  unheld_cond t p q r s h k = grind arith
 
   unheld_reads : (p : PortModel b) (x : Bool) (a : ℕ × b.Meaning) (h : ℕ) → unheld b (reads_on b p x a h) ≡ reads_on b (unheld b p) x a 0
-  unheld_reads p true a h = refl
-  unheld_reads p false a h = refl
+  unheld_reads p x a h = grind arith
 
   -- a bit counts alike whatever a port holds, and whatever hold answers
   pub unheld_counts : (p : PortModel b) (m : Mode) (x : Bool) (h : ℕ) → unheld b (counts b p m x h) ≡ counts b (unheld b p) m x 0
-  unheld_counts p Out x h = refl
-  unheld_counts p (Addressing y) x h = let v = shifted y.value x in let d = direction_of (eqb (v % 2) 1) in let m = Addressing (part (suc y.bits) v) in
-      unheld_cond (ltb y.bits 7) (goes b p m) (called b p (v / 2) d) (goes b (unheld b p) m) (called b (unheld b p) (v / 2) d) refl
-      (unheld_cond (answers_to p.address (v / 2)) (selects b p d (b.select p.meaning d)) (goes b p Out)
-      (selects b (unheld b p) d (b.select p.meaning d)) (goes b (unheld b p) Out) refl refl)
-  unheld_counts p (Writing y) x h = let v = shifted y.value x in let m = Writing (part (suc y.bits) v) in let a = b.put p.meaning v in
-      unheld_cond (ltb y.bits 7) (goes b p m) (puts b p a) (goes b (unheld b p) m) (puts b (unheld b p) a) refl refl
-  unheld_counts p (Acknowledging Write) x h = refl
-  unheld_counts p (Acknowledging Read) x h = unheld_reads p x (b.take p.meaning) h
-  unheld_counts p (Reading y) x h = let m = Reading (part (suc y.bits) y.value) in let a = b.take p.meaning in
-      unheld_cond (ltb y.bits 8) (goes b p m) (reads_on b p x a h) (goes b (unheld b p) m) (reads_on b (unheld b p) x a 0) refl (unheld_reads p x a h)
+  unheld_counts p m x h = grind arith
 
 follows : (ds : List Behaviour) (s : Bank PortModel ds) (e : Event) (o : Option Bool) (i : Bool) (a : Holds ds) →
     each unheld ds (ports_step ds s (record { event = e; bit = o; idle = i }) a) ≡ side_sees ds e o (each unheld ds s)

@@ -1,8 +1,7 @@
 -- The tick of the stop, by the cells: who is told, who stays armed, and that these are whom the book tells.
-use Rattle.std.proofs.Common.{◌≡◌, ℕ, zero, suc, ◌+◌, ◌≤◌, min, Bool, true, false, cond, not, ◌&&◌, eqb, ◌⊎◌, List, [], ◌∷◌, get_or, is_some, Some, None, Option, sym, refl, ap, ◌∙◌, ap₂, inl, inr, arith}
+use Rattle.std.proofs.Common.{◌≡◌, ℕ, zero, suc, ◌+◌, ◌≤◌, min, Bool, true, false, cond, not, ◌&&◌, eqb, ◌⊎◌, List, [], ◌∷◌, get_or, is_some, Some, None, Option, sym, refl, ap, ◌∙◌, ap₂, arith}
 use Rattle.std.proofs.lemmas.Bool.{eqb-true, eq-eqb, ne_eqb}
 use Rattle.master.specs.declared.symbol.Symbol.{Symbol}
-use Rattle.master.specs.declared.symbol.Symbol.TheVariants.{Zero, One, Listen, RepeatedStart, Stop}
 use Rattle.master.specs.Masters.{MasterModel}
 use Rattle.master.specs.Scripts.{Script}
 use Rattle.law.proofs.Sides.{Side, heard}
@@ -16,18 +15,13 @@ use Rattle.law.proofs.Law.Contests.{stop_wins, stop_names}
 
 count_one : {A B : Type 0} (v : Bool) (a : Option A) (o : B) (l os : List (Option A)) (ts : List (Option B)) → is_some a ≡ true → count os + count ts ≡ count l →
     count (disarm_one a (cond v (Some o) None) ∷ os) + count (cond v (Some o) None ∷ ts) ≡ count (a ∷ l)
-count_one v None o l os ts h e = cc
-count_one true (Some q) o l os ts h e = omega arith
-count_one false (Some q) o l os ts h e = omega arith
+count_one v a o l os ts h k = grind arith
 
 count_out : {A B : Type 0} (a : Option A) (l os : List (Option A)) (ts : List (Option B)) → count os + count ts ≡ count l → count (a ∷ os) + count ts ≡ count (a ∷ l)
-count_out None l os ts e = e
-count_out (Some q) l os ts e = omega arith
+count_out a l os ts h = grind arith
 
 told_one : {B : Type 0} (v : Bool) (o : B) (ts : List (Option B)) → (v ≡ true) ⊎ (1 ≤ count ts) → 1 ≤ count (cond v (Some o) None ∷ ts)
-told_one true o ts h = omega arith
-told_one false o ts (inl h) = cc
-told_one false o ts (inr h) = h
+told_one v o ts h = grind arith
 
 told_is : {B : Type 0} (v : Bool) (o : B) → is_some (cond v (Some o) None) ≡ v
 told_is true o = refl
@@ -38,8 +32,7 @@ least_one a b h = grind arith
 
 -- who is armed after an outcome was told was so before, and was told nothing
 disarmed_one : {A B : Type 0} (o : Option A) (t : Option B) (p : A) → disarm_one o t ≡ Some p → (o ≡ Some p) × (t ≡ None)
-disarmed_one o None p e = (e, refl)
-disarmed_one o (Some t) p e = cc
+disarmed_one o t p h = grind arith
 
 pub disarmed : {A B : Type 0} (os : List (Option A)) (ts : List (Option B)) (j : ℕ) (p : A) → at (disarm os ts) j ≡ Some p → (at os j ≡ Some p) × (at ts j ≡ None)
 disarmed [] ts j p e = cc
@@ -58,11 +51,7 @@ module _ (W : Script) where
   ending (o ∷ os) = names o ∷ ending os
 
   tell_end : (p : W.Cursor) (x : Symbol) → telling W (late W 1 x p) ≡ cond (eqb (rank x) 1) (Some (W.outcome p)) None
-  tell_end p Zero = refl
-  tell_end p One = refl
-  tell_end p Listen = refl
-  tell_end p RepeatedStart = refl
-  tell_end p Stop = refl
+  tell_end p x = grind arith
 
   pub tells_end : (cs : List (Cell W)) → tellings W (notes W (late W 1) cs) ≡ ending (cursors W cs)
   tells_end [] = refl
@@ -71,8 +60,7 @@ module _ (W : Script) where
 
   done_armed : (v : Bool) (m : MasterModel W) (o : W.Outcome) (cs : List (Cell W)) (l : Tasks W) → cell_armeds W cs ≡ l →
       cell_armeds W (done_if W v m ∷ cs) ≡ disarm_one (task_of W m.arming) (cond v (Some o) None) ∷ l
-  done_armed true m o cs l e = ap (λ z. None ∷ z) e
-  done_armed false m o cs l e = ap (λ z. task_of W m.arming ∷ z) e
+  done_armed v m o cs l h = grind arith
 
   pub armeds_finished : (cs : List (Cell W)) → cell_armeds W (finished W cs) ≡ disarm (cell_armeds W cs) (ending (cursors W cs))
   armeds_finished [] = refl
@@ -92,17 +80,11 @@ module _ (W : Script) where
   somebody_told (live m p ∷ cs) h = go (least_one (rank (W.symbol p)) (least W cs) h) (somebody_told cs)
     where
       go : (rank (W.symbol p) ≡ 1) ⊎ (least W cs ≡ 1) → (least W cs ≡ 1 → 1 ≤ count (ending (cursors W cs))) → 1 ≤ count (ending (cursors W (live m p ∷ cs)))
-      go (inl e) ih = told_one (eqb (rank (W.symbol p)) 1) (W.outcome p) (ending (cursors W cs)) (inl (eq-eqb (rank (W.symbol p)) 1 e))
-      go (inr e) ih = told_one (eqb (rank (W.symbol p)) 1) (W.outcome p) (ending (cursors W cs)) (inr (ih e))
+      go h k = grind arith
 
   -- told are the contenders never marked
   told_unmarked : (a : Option W.Task) (p : W.Cursor) (x : Symbol) → is_some a ≡ true → (1 ≤ rank x) × (rank x ≤ 3) → is_some (cond (eqb (rank x) 1) (Some (W.outcome p)) None) ≡ not (is_some a && early_lost false x)
-  told_unmarked None p x h q = cc
-  told_unmarked (Some a) p Zero h q = absurd (omega arith)
-  told_unmarked (Some a) p One h q = refl
-  told_unmarked (Some a) p Listen h q = absurd (omega arith)
-  told_unmarked (Some a) p RepeatedStart h q = refl
-  told_unmarked (Some a) p Stop h q = refl
+  told_unmarked a p x h k = grind arith
 
   pub tells_unmarked : (l : Tasks W) (cs : List (Cell W)) → Within W l cs → Every W (λ x. (1 ≤ rank x) × (rank x ≤ 3)) cs → (i : ℕ) (q : W.Task) → at l i ≡ Some q →
       is_some (at (ending (cursors W cs)) i) ≡ not (get_or (marked W (early_lost false) l cs) i false)

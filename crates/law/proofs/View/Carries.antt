@@ -1,5 +1,5 @@
 -- Who leads by the letters of carried alone is who leads slot by slot.
-use Rattle.std.proofs.Common.{◌≡◌, ℕ, Bool, true, false, cond, eqb, ltb, List, [], ◌∷◌, map, Some, None, Option, sym, refl, ap, ◌∙◌, subst, ap₂, le_refl}
+use Rattle.std.proofs.Common.{◌≡◌, ℕ, Bool, cond, eqb, ltb, List, [], ◌∷◌, map, Some, None, Option, sym, refl, ap, ◌∙◌, subst, ap₂, le_refl, arith}
 use Rattle.std.specs.Cmp.Derive.Mapped.{pointwise-map}
 use Rattle.std.specs.Option.{option_map}
 use Rattle.transfer.specs.Drafts.{TransferModel}
@@ -65,12 +65,10 @@ module _ (ds : List Behaviour) (d : Bank Placed ds) where
   lead l = leader transfers (ports_side ds) slots_left l side
 
   cond_legal : (b : Bool) (t u : TransferModel) → Legal t → Legal u → Legal (cond b t u)
-  cond_legal true t u k l = k
-  cond_legal false t u k l = l
+  cond_legal b t u h k = grind arith
 
   pick_legal : (t : TransferModel) (o : Option TransferModel) → Legal t → LegalIf o → Legal (pick transfers (ports_side ds) slots_left t o side)
-  pick_legal t None k l = k
-  pick_legal t (Some u) k l = cond_legal (lexb (text t) (text u)) t u k l
+  pick_legal t o h k = grind arith
 
   pub lead_legal : (l : List (Option TransferModel)) → AllLegal l → LegalIf (lead l)
   lead_legal [] k = tt
@@ -78,8 +76,7 @@ module _ (ds : List Behaviour) (d : Bank Placed ds) where
   lead_legal (Some t ∷ l) k = pick_legal t (lead l) k.0 (lead_legal l k.1)
 
   carry_cond : (b : Bool) (t u : TransferModel) → carry (cond b t u) ≡ cond b (carry t) (carry u)
-  carry_cond true t u = refl
-  carry_cond false t u = refl
+  carry_cond b t u = grind arith
 
   pick_is : (t : TransferModel) (o : Option TransferModel) → Legal t → LegalIf o → carry (pick transfers (ports_side ds) slots_left t o side) ≡ first_of_two ds (carry t) (option_map carry o)
   pick_is t None k l = refl

@@ -1,16 +1,13 @@
 -- How long the ports together hold SCL: the largest hold of all.
-use Rattle.std.proofs.Common.{◌≡◌, ℕ, suc, ◌-◌, ◌/◌, ◌%◌, ◌≤◌, max, Bool, true, false, cond, ◌||◌, eqb, ltb, List, [], ◌∷◌, Some, None, Option, refl, ap, ◌∙◌, arith}
+use Rattle.std.proofs.Common.{◌≡◌, ℕ, ◌-◌, ◌≤◌, max, Bool, cond, ◌||◌, ltb, List, [], ◌∷◌, Some, None, Option, refl, ap, ◌∙◌, arith}
 use Rattle.std.proofs.lemmas.Bool.Decides.{nat_tests}
-use Rattle.transfer.specs.declared.leg.Direction.TheVariants.{Write, Read}
 use Rattle.device.specs.Behaviours.{Behaviour}
 use Rattle.port.specs.declared.port.Mode.{Mode}
-use Rattle.port.specs.declared.port.Mode.TheVariants.{Out, Addressing, Writing, Acknowledging, Reading}
 use Rattle.wire.specs.declared.wire.Event.{Event}
 use Rattle.wire.specs.declared.wire.Event.TheVariants.{Rise, Fall, Start, Stop, SteadyHigh, SteadyLow}
 use Rattle.law.specs.Banks.{Bank, listed}
 use Rattle.law.specs.Buses.{all_pulls, Holds, ports_step}
-use Rattle.wire.specs.Octets.{shifted}
-use Rattle.port.specs.Ports.{PortModel, part, port_pulls, answers_to, direction_of, goes, selects, called, puts, reads_on, counts}
+use Rattle.port.specs.Ports.{PortModel, port_pulls, reads_on, counts}
 use Rattle.law.proofs.Law.Machine.{hold_after}
 
 abbrev pub longest_hold : (ds : List Behaviour) → Bank PortModel ds → ℕ
@@ -70,24 +67,13 @@ hold_follows ds p (Rise x) o i a h = still ds p (Rise x) o i a (λ k. cc) refl
 
 module _ (b : Behaviour) where
   small_if : (t : Bool) (p q : PortModel b) → p.hold ≤ 255 → q.hold ≤ 255 → (cond t p q).hold ≤ 255
-  small_if true p q h k = h
-  small_if false p q h k = k
+  small_if t p q h k = grind arith
 
   small_reads : (p : PortModel b) (x : Bool) (a : ℕ × b.Meaning) (h : ℕ) → p.hold ≤ 255 → h ≤ 255 → (reads_on b p x a h).hold ≤ 255
-  small_reads p true a h k l = k
-  small_reads p false a h k l = l
+  small_reads p x a h k e = grind arith
 
   small_counts : (p : PortModel b) (m : Mode) (x : Bool) (h : ℕ) → p.hold ≤ 255 → h ≤ 255 → (counts b p m x h).hold ≤ 255
-  small_counts p Out x h k l = k
-  small_counts p (Addressing y) x h k l = let v = shifted y.value x in let d = direction_of (eqb (v % 2) 1) in
-      small_if (ltb y.bits 7) (goes b p (Addressing (part (suc y.bits) v))) (called b p (v / 2) d) k
-      (small_if (answers_to p.address (v / 2)) (selects b p d (b.select p.meaning d)) (goes b p Out) k k)
-  small_counts p (Writing y) x h k l = let v = shifted y.value x in
-      small_if (ltb y.bits 7) (goes b p (Writing (part (suc y.bits) v))) (puts b p (b.put p.meaning v)) k k
-  small_counts p (Acknowledging Write) x h k l = l
-  small_counts p (Acknowledging Read) x h k l = small_reads p x (b.take p.meaning) h k l
-  small_counts p (Reading y) x h k l = let m = Reading (part (suc y.bits) y.value) in
-      small_if (ltb y.bits 8) (goes b p m) (reads_on b p x (b.take p.meaning) h) k (small_reads p x (b.take p.meaning) h k l)
+  small_counts p m x h k e = grind arith
 
 -- a hold that is asked for is at most 255
 pub asked_small : (ds : List Behaviour) (p : Bank PortModel ds) (x i : Bool) (a : Holds ds) → longest_hold ds p ≤ 255 →

@@ -1,5 +1,5 @@
 -- All hosts together, and that transfers, hosts and ports are such as the law asks for.
-use Rattle.std.proofs.Common.{◌≡◌, ℕ, zero, suc, List, [], ◌∷◌, Some, None, Option, refl, ap, subst, le_refl}
+use Rattle.std.proofs.Common.{◌≡◌, ℕ, zero, suc, List, [], ◌∷◌, Some, None, Option, refl, ap, subst, le_refl, arith}
 use Rattle.std.specs.Option.{option_map}
 use Rattle.transfer.specs.declared.draft.Transfer.{Transfer}
 use Rattle.transfer.specs.Drafts.{TransferModel, transfer_model}
@@ -49,8 +49,7 @@ legal_wants (h ∷ hs) m zero t e = legal_want (h.want m.0) t e
 legal_wants (h ∷ hs) m (suc i) t e = legal_wants hs m.1 i t e
 
 unheard_one : (h : HostBehaviour) (m : h.Meaning) (t : Option OutcomeModel) → t ≡ None → hears_one h m t ≡ m
-unheard_one h m None e = refl
-unheard_one h m (Some o) e = cc
+unheard_one h m t k = grind arith
 
 unheard_all : (hs : List HostBehaviour) (m : Meanings hs) (ts : List (Option OutcomeModel)) → ((i : ℕ) → at ts i ≡ None) → hears_all hs m ts ≡ m
 unheard_all [] m ts e = refl

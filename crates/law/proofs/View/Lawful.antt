@@ -1,5 +1,5 @@
 -- The law over every use of a bus, from the law over its machine.
-use Rattle.std.proofs.Common.{◌≡◌, ℕ, zero, suc, ◌+◌, ◌<◌, ◌≤◌, Bool, true, false, ltb, List, [], ◌∷◌, map, get_or, is_some, Some, None, Ok, Option, sym, refl, ap, ◌∙◌, subst, ap₂, arith}
+use Rattle.std.proofs.Common.{◌≡◌, ℕ, zero, suc, ◌+◌, ◌<◌, ◌≤◌, Bool, true, false, ltb, List, [], ◌∷◌, map, get_or, is_some, Some, None, Ok, Option, sym, ap, ◌∙◌, subst, ap₂, arith}
 use Rattle.std.proofs.lemmas.Bool.{le-ltb}
 use Rattle.std.specs.Option.{option_map}
 use Rattle.transfer.specs.Drafts.{TransferModel}
@@ -40,16 +40,13 @@ legal_at (o ∷ l) zero t k e = subst LegalIf e k.0
 legal_at (o ∷ l) (suc i) t k e = legal_at l i t k.1 e
 
 turn_open : (v : Bool) (l m : List (Option TransferModel)) → turn_if v l ≡ Some m → (v ≡ true) × (l ≡ m)
-turn_open true l m e = (refl, let f : l ≡ m = cc in f)
-turn_open false l m e = cc
+turn_open v l m h = grind arith
 
 turn_some : (v : Bool) (l : List (Option TransferModel)) → v ≡ true → is_some (turn_if v l) ≡ true
-turn_some true l e = refl
-turn_some false l e = e
+turn_some v l h = grind arith
 
 turn_is : (v : Bool) (l : List (Option TransferModel)) → v ≡ true → turn_if v l ≡ Some l
-turn_is true l e = refl
-turn_is false l e = cc
+turn_is v l h = grind arith
 
 module _ (hs : List HostBehaviour) (ds : List Behaviour) where
   abbrev Lawful : Use hs ds → Type 0

@@ -1,10 +1,10 @@
 -- The bus as the machine of the law sees it, and a tick of both.
-use Rattle.std.proofs.Common.{◌≡◌, ℕ, ◌≤◌, Bool, true, false, not, ◌||◌, ltb, List, [], ◌∷◌, Some, None, Option, refl, ap, ◌∙◌, ap₂, arith}
+use Rattle.std.proofs.Common.{◌≡◌, ℕ, ◌≤◌, Bool, true, not, ◌||◌, ltb, List, [], ◌∷◌, Option, refl, ap, ◌∙◌, ap₂, arith}
 use Rattle.std.proofs.lemmas.Bool.Decides.{nat_tests}
 use Rattle.device.specs.Behaviours.{Behaviour}
 use Rattle.host.specs.Behaviours.{HostBehaviour}
 use Rattle.wire.specs.declared.wire.Event.{Event}
-use Rattle.wire.specs.declared.wire.Event.TheVariants.{Rise, Fall, Start, Stop, SteadyHigh, SteadyLow}
+use Rattle.wire.specs.declared.wire.Event.TheVariants.{Fall}
 use Rattle.wire.specs.declared.wire.Levels.{Levels}
 use Rattle.wire.specs.declared.wire.Signal.{Signal}
 use Rattle.law.specs.Banks.{Bank, each, listed}
@@ -53,11 +53,7 @@ module _ (hs : List HostBehaviour) (ds : List Behaviour) where
       ap₂ (λ p q. levels_of (both p q)) m (λ i. record { scl = c i; sda = d i })
 
   falls_from_high : (a b : Levels) → event a b ≡ Fall → a.scl ≡ true
-  falls_from_high a b e = high a.scl b.scl a.sda b.sda e where
-    high : (c d x y : Bool) → moved c d x y ≡ Fall → c ≡ true
-    high true d x y e = refl
-    high false true x y e = cc
-    high false false x y e = cc
+  falls_from_high a b h = grind arith
 
   -- what the ports are asked for in the next tick
   abbrev pub answer_at : BusModel hs ds → Holds ds → ℕ
@@ -68,13 +64,7 @@ module _ (hs : List HostBehaviour) (ds : List Behaviour) where
       answers_small ds u.ports s.event s.bit s.idle a (λ e. h (falls_from_high u.wire.last (levels_at hs ds u) e))
 
   same_side : (e : Event) (o : Option Bool) (s : Bank PortModel ds) → side_sees ds e o s ≡ side_after (ports_side ds) s e o
-  same_side Start o s = refl
-  same_side Stop o s = refl
-  same_side Fall None s = refl
-  same_side Fall (Some x) s = refl
-  same_side SteadyLow o s = refl
-  same_side SteadyHigh o s = refl
-  same_side (Rise x) o s = refl
+  same_side e o s = grind arith
 
   -- a tick of the bus is a tick of the machine
   pub tick_seen : (u : BusModel hs ds) (a : Holds ds) → LetGo u → seen (tick_at hs ds u a).1 ≡ tick transfers (ports_side ds) (seen u) (answer_at u a)
@@ -99,10 +89,4 @@ module _ (hs : List HostBehaviour) (ds : List Behaviour) where
         nobody p q n e h = grind (arith, nat_tests)
 
         kept : (c d x y : Bool) (n : ℕ) (o : Option Bool) (h : ℕ) → d ≡ true → hold_after n (moved c d x y) o h ≡ n
-        kept true true true true n o h e = refl
-        kept true true true false n o h e = refl
-        kept true true false true n o h e = refl
-        kept true true false false n o h e = refl
-        kept false true x y n o h e = refl
-        kept true false x y n o h e = cc
-        kept false false x y n o h e = cc
+        kept c d x y n o h k = grind arith

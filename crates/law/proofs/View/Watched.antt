@@ -11,7 +11,7 @@ use Rattle.law.specs.Banks.{Bank, each, listed, any_true}
 use Rattle.law.specs.Books.{Entry, enters, standing_of, Book, book_after}
 use Rattle.master.specs.Serving.{Served, served_mark, served_told, mark_of, outcome_told}
 use Rattle.law.specs.Laws.{Watch, watching, sees, starts_again, is_lost, marked_too, watched}
-use Rattle.master.specs.Masters.{VerdictModel, quiet, lost, told, master_step}
+use Rattle.master.specs.Masters.{VerdictModel, master_step}
 use Rattle.law.specs.Runs.{how_many}
 use Rattle.master.specs.Scripts.{transfers}
 use Rattle.law.specs.Strings.{Letter, stop, restart, rank, bit_letter}
@@ -81,9 +81,7 @@ module _ (hs : List HostBehaviour) (ds : List Behaviour) where
 
 -- marks by verdicts
 mark_lost : (k : VerdictModel transfers) → is_lost (mark_of k) ≡ verdict_lost transfers k
-mark_lost quiet = refl
-mark_lost lost = refl
-mark_lost (told o) = refl
+mark_lost k = grind arith
 
 pub marked_as : (hs : List HostBehaviour) (ms : Bank Served hs) (s : Signal) (vs : List Bool) →
     marked_too vs (listed (λ h. served_mark h s) hs ms) ≡ marks_too transfers vs (verdicts transfers (masters_of hs ms) s)
@@ -93,9 +91,7 @@ marked_as (h ∷ hs) ms s [] = refl
 marked_as (h ∷ hs) ms s (v ∷ vs) = ap₂ (λ a l. (v || a) ∷ l) (mark_lost (master_step transfers ms.0.master s).1) (marked_as hs ms.1 s vs)
 
 told_one : (k : VerdictModel transfers) → outcome_told k ≡ telling transfers k
-told_one quiet = refl
-told_one lost = refl
-told_one (told o) = refl
+told_one k = grind arith
 
 pub told_as : (hs : List HostBehaviour) (ms : Bank Served hs) (s : Signal) → listed (λ h. served_told h s) hs ms ≡ tellings transfers (verdicts transfers (masters_of hs ms) s)
 told_as [] ms s = refl
