@@ -1,15 +1,13 @@
 -- What cursors that carried the same letters have in common.
-use Rattle.std.proofs.Common.{◌≡◌, ℕ, suc, ◌<◌, ◌≤◌, Bool, true, false, cond, not, ◌&&◌, ltb, ◌⊎◌, Option, sym, refl, ◌∙◌, inl, inr, arith}
+use Rattle.std.proofs.Common.{◌≡◌, ℕ, suc, ◌<◌, ◌≤◌, Bool, true, false, cond, ◌&&◌, ltb, ◌⊎◌, Option, sym, refl, ◌∙◌, inl, inr, arith}
 use Rattle.std.proofs.lemmas.Bool.{cases_lt, lt-ltb, le-ltb}
 use Rattle.transfer.specs.Drafts.{TransferModel}
-use Rattle.transfer.specs.Legs.{BodyModel, LegModel, body_size}
+use Rattle.transfer.specs.Legs.{LegModel}
 use Rattle.master.specs.declared.symbol.Symbol.{Symbol}
 use Rattle.master.specs.declared.symbol.Symbol.TheVariants.{Zero, One, Listen, RepeatedStart, Stop}
-use Rattle.master.specs.Cursors.{Play, done, again, sends, CursorModel, opening_of, sent, is_write, own, size, shown, symbol_of, cursor_next}
-use Rattle.wire.specs.Octets.{digit}
-use Rattle.master.specs.Symbols.{bit_symbol}
+use Rattle.master.specs.Cursors.{Play, done, again, sends, CursorModel, opening_of, is_write, own, size, shown, symbol_of, cursor_next}
 use Rattle.law.proofs.Sides.{ends}
-use Rattle.law.specs.Legal.{LegalBody, LegalLeg, LegalSecond, Legal}
+use Rattle.law.specs.Legal.{LegalLeg, LegalSecond, Legal}
 use Rattle.law.proofs.Alone.Moves.{leaves, goes_on, moves, next_is}
 use Rattle.law.proofs.Alone.SlotsLeft.{slots_left, some_left, fewer}
 
@@ -56,35 +54,16 @@ listens Listen = true
 listens RepeatedStart = false
 listens Stop = false
 
-pub listens_is : (x : Symbol) → listens x ≡ true → x ≡ Listen
-listens_is x h = grind arith
-
-bit_shown : (b : Bool) → listens (bit_symbol b) ≡ false
-bit_shown true = refl
-bit_shown false = refl
-
 -- a byte of one's own is listened to in its ninth bit, and one that is read in its first eight
 abbrev silent : Bool → ℕ → Bool
 silent true b = ltb 7 b
 silent false b = ltb b 8
 
-listens_at : (w d e : Bool) (b : ℕ) → listens (cond w (cond (ltb b 8) (bit_symbol d) Listen) (cond (ltb b 8) Listen (bit_symbol e))) ≡ silent w b
-listens_at w d e b = grind arith
-
-listens_shown : (g : LegModel) (y b : ℕ) → listens (shown g y b) ≡ silent (own g y) b
-listens_shown g y b = grind arith
-
 pub same_own : (f g : LegModel) (y b : ℕ) → OneWay f g y b → own f y ≡ own g y
 same_own f g y b h = grind arith
 
-same_listens : (f g : LegModel) (y b : ℕ) → OneWay f g y b → listens (shown f y b) ≡ listens (shown g y b)
-same_listens f g y b h = grind arith
-
 both_listen : (p q : Play) → AlikePlay p q → symbol_of p ≡ Listen → symbol_of q ≡ Listen
 both_listen p q h k = grind arith
-
-bit_symbol_inj : (x y : Bool) → bit_symbol x ≡ bit_symbol y → x ≡ y
-bit_symbol_inj x y h = grind arith
 
 -- a bit, a listen or an end
 abbrev sort : Symbol → ℕ
@@ -94,25 +73,12 @@ sort Listen = 1
 sort RepeatedStart = 2
 sort Stop = 3
 
-sort_bit : (b : Bool) → sort (bit_symbol b) ≡ 0
-sort_bit true = refl
-sort_bit false = refl
-
 apart : (p q : Play) → (sort (symbol_of p) ≡ 1 → ⊥) → (sort (symbol_of q) ≡ 1 → ⊥) → (sort (symbol_of p) ≡ sort (symbol_of q) → ⊥) → AlikePlay p q
 apart p q h k e = grind arith
-
-sort_leaves : (o : Option LegModel) → 2 ≤ sort (symbol_of (leaves o))
-sort_leaves o = grind arith
-
-leaves_alike : (m o : Option LegModel) → LegalSecond m → LegalSecond o → AlikePlay (leaves m) (leaves o)
-leaves_alike m o h k = grind arith
 
 module _ (f g : LegModel) (m o : Option LegModel) (hf : LegalLeg f × LegalSecond m) (hg : LegalLeg g × LegalSecond o) (y : ℕ) where
   abbrev Goes : Bool → Bool → Type 0
   Goes s t = AlikePlay (cond s (sends f m (suc y) 0) (leaves m)) (cond t (sends g o (suc y) 0) (leaves o))
-
-  both_go : is_write f.body ≡ is_write g.body → Goes true true
-  both_go h = grind arith
 
   -- after a written byte one may go on while another leaves
   writers : (s t : Bool) → is_write f.body ≡ true → is_write g.body ≡ true → Goes s t
@@ -122,13 +88,6 @@ module _ (f g : LegModel) (m o : Option LegModel) (hf : LegalLeg f × LegalSecon
   readers : (s t : Bool) → is_write f.body ≡ is_write g.body → s ≡ t → Goes s t
   readers s t h k = grind arith
 
-reads_some : (b : BodyModel) → LegalBody b → is_write b ≡ false → 1 ≤ body_size b
-reads_some b h k = grind arith
-
--- the acknowledge of a read byte shows whether more follow
-shows_more : (y s t b : ℕ) → 8 ≤ b → cond (ltb b 8) Listen (bit_symbol (not (ltb y s))) ≡ cond (ltb b 8) Listen (bit_symbol (not (ltb y t))) → ltb y s ≡ ltb y t
-shows_more y s t b h k = grind arith
-
 read_on : (f g : LegModel) (y b : ℕ) → LegalLeg f → LegalLeg g → 8 ≤ b → is_write f.body ≡ false → is_write g.body ≡ false →
     shown f y b ≡ shown g y b → ltb y (size f) ≡ ltb y (size g)
 read_on f g y b h k e d q r = grind arith
@@ -137,16 +96,6 @@ goes_alike : (f g : LegModel) (m o : Option LegModel) → LegalLeg f × LegalSec
     (w : Bool) → is_write f.body ≡ w → is_write g.body ≡ w → shown f y b ≡ shown g y b → AlikePlay (goes_on f m y) (goes_on g o y)
 goes_alike f g m o hf hg y b h true p q e = writers f g m o hf hg y (ltb y (size f)) (ltb y (size g)) p q
 goes_alike f g m o hf hg y b h false p q e = readers f g m o hf hg y (ltb y (size f)) (ltb y (size g)) (p ∙ sym q) (read_on f g y b hf.0 hg.0 h p q e)
-
-lowest_of : (a : ℕ) (b : BodyModel) → digit (sent (record { address = a; body = b }) 0) 0 ≡ not (is_write b)
-lowest_of a b = grind arith
-
-not_inj : (x y : Bool) → not x ≡ not y → x ≡ y
-not_inj x y h = grind arith
-
--- the direction bit shows the direction
-shows_way : (f g : LegModel) → digit (sent f 0) 0 ≡ digit (sent g 0) 0 → is_write f.body ≡ is_write g.body
-shows_way f g h = grind arith
 
 still_one_way : (f g : LegModel) (y b : ℕ) → b < 8 → OneWay f g y b → shown f y b ≡ shown g y b → OneWay f g y (suc b)
 still_one_way f g y b h k e = grind arith

@@ -1,7 +1,7 @@
 -- Where a cursor goes and what it notes, each by itself.
 use Rattle.std.proofs.Common.{◌≡◌, ℕ, suc, Bool, true, false, cond, ◌&&◌, ltb, [], ◌∷◌, ◌++◌, Some, None, Option, arith}
 use Rattle.transfer.specs.Legs.{LegModel}
-use Rattle.master.specs.Cursors.{Play, done, again, sends, Notes, CursorModel, at, own, size, noted, gathered, unanswered, leave, onward, left, next_of}
+use Rattle.master.specs.Cursors.{Play, done, again, sends, Notes, at, own, size, noted, gathered, unanswered, next_of}
 
 abbrev pub leaves : Option LegModel → Play
 leaves None = done
@@ -27,18 +27,6 @@ notes_on (again g) n heard = record { leg = 1; bytes = n.bytes; value = n.value;
 notes_on (sends g o y b) n heard = cond (ltb b 8)
     (gathered (own g y) n heard)
     (cond (own g y && heard) (record { leg = n.leg; bytes = n.bytes; value = n.value; kind = unanswered n.leg y }) (kept (own g y) n))
-
-pub leave_is : (o : Option LegModel) (n : Notes) → leave o n ≡ at (leaves o) n
-leave_is o n = grind arith
-
-cond_is : (t : Bool) (c e : CursorModel) (p q : Play) (m n : Notes) → c ≡ at p m → e ≡ at q n → cond t c e ≡ at (cond t p q) (cond t m n)
-cond_is t c e p q m n h k = grind arith
-
-pub onward_is : (g : LegModel) (o : Option LegModel) (y : ℕ) (n : Notes) → onward g o y n ≡ at (goes_on g o y) n
-onward_is g o y n = grind arith
-
-left_is : (l : Bool) (g : LegModel) (o : Option LegModel) (y : ℕ) (n : Notes) → left l g o y n ≡ at (goes_on g o y) (kept l n)
-left_is l g o y n = grind arith
 
 pub next_is : (p : Play) (n : Notes) (heard : Bool) → next_of p n heard ≡ at (moves p heard) (notes_on p n heard)
 next_is p n heard = grind arith

@@ -1,5 +1,5 @@
 -- All ports as the far side that a script is played against, and how it follows the ports at each event.
-use Rattle.std.proofs.Common.{◌≡◌, ℕ, Bool, cond, ◌||◌, List, [], ◌∷◌, Some, None, Option, refl, ap, arith}
+use Rattle.std.proofs.Common.{◌≡◌, ℕ, Bool, ◌||◌, List, [], ◌∷◌, Some, None, Option, refl, ap, arith}
 use Rattle.device.specs.Behaviours.{Behaviour}
 use Rattle.port.specs.declared.port.Mode.{Mode}
 use Rattle.port.specs.declared.port.Mode.TheVariants.{Out, Addressing}
@@ -8,7 +8,7 @@ use Rattle.wire.specs.declared.wire.Event.TheVariants.{Rise, Fall, Start, Stop, 
 use Rattle.wire.specs.declared.wire.Signal.{Signal}
 use Rattle.law.specs.Banks.{Bank, each, listed}
 use Rattle.law.specs.Buses.{all_pulls, Holds, ports_step}
-use Rattle.port.specs.Ports.{PortModel, part, mode_pulls, port_pulls, reads_on, counts, settles, new_port}
+use Rattle.port.specs.Ports.{PortModel, part, mode_pulls, port_pulls, counts, settles, new_port}
 use Rattle.law.specs.Carrying.{Placed}
 use Rattle.law.proofs.Sides.{Side}
 use Rattle.law.proofs.Alone.Banks.{any}
@@ -56,12 +56,6 @@ side_sees ds SteadyHigh o s = s
 side_sees ds (Rise x) o s = s
 
 module _ (b : Behaviour) where
-  unheld_cond : (t : Bool) (p q r s : PortModel b) → unheld b p ≡ r → unheld b q ≡ s → unheld b (cond t p q) ≡ cond t r s
-  unheld_cond t p q r s h k = grind arith
-
-  unheld_reads : (p : PortModel b) (x : Bool) (a : ℕ × b.Meaning) (h : ℕ) → unheld b (reads_on b p x a h) ≡ reads_on b (unheld b p) x a 0
-  unheld_reads p x a h = grind arith
-
   -- a bit counts alike whatever a port holds, and whatever hold answers
   pub unheld_counts : (p : PortModel b) (m : Mode) (x : Bool) (h : ℕ) → unheld b (counts b p m x h) ≡ counts b (unheld b p) m x 0
   unheld_counts p m x h = grind arith

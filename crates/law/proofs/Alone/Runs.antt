@@ -1,5 +1,5 @@
 -- Slots that carry given levels, and what a script played alone comes to.
-use Rattle.std.proofs.Common.{◌≡◌, ℕ, zero, suc, ◌-◌, ◌/◌, ◌<◌, ◌≤◌, Bool, true, false, cond, not, ltb, ◌⊎◌, List, [], ◌∷◌, ◌++◌, map, sym, refl, ap, ◌∙◌, div-one, arith}
+use Rattle.std.proofs.Common.{◌≡◌, ℕ, zero, suc, ◌-◌, ◌/◌, ◌<◌, ◌≤◌, Bool, true, false, not, ltb, ◌⊎◌, List, [], ◌∷◌, ◌++◌, map, sym, refl, ap, ◌∙◌, div-one, arith}
 use native.Mathlib.Nat.{div-eq_of_lt}
 use Rattle.master.specs.declared.symbol.Symbol.{Symbol}
 use Rattle.master.specs.declared.symbol.Symbol.TheVariants.{Listen, RepeatedStart, Stop}
@@ -28,20 +28,8 @@ module _ (D : Side) where
     pub open_is : ends x ≡ false
     pub quiet_is : (x ≡ Listen → ⊥) → D.pulls s ≡ false
 
-  shown_slot : (s : D.S) (b : Bool) → D.pulls s ≡ false → Slot (bit_symbol b) s (bit_letter b) b (D.bit s b)
-  shown_slot s b h = grind arith
-
-  heard_rank : (pulled : Bool) → cond pulled 0 3 ≡ rank (bit_letter (not pulled))
-  heard_rank pulled = grind arith
-
-  heard_slot : (s : D.S) → Slot Listen s (bit_letter (not (D.pulls s))) (not (D.pulls s)) (D.bit s (not (D.pulls s)))
-  heard_slot s = grind arith
-
   level_slot : (x : Symbol) (s : D.S) (b : Bool) → CarriesLevel x (D.pulls s) b → Slot x s (bit_letter b) b (D.bit s b)
   level_slot x s b h = grind arith
-
-  restart_slot : (x : Symbol) (s : D.S) → x ≡ RepeatedStart → D.pulls s ≡ false → Slot x s restart true (D.begin s)
-  restart_slot x s h k = grind arith
 
 module _ (W : Script) (D : Side) where
   -- these levels, one a slot, and then K

@@ -4,8 +4,7 @@ use Rattle.transfer.specs.Drafts.{TransferModel}
 use Rattle.transfer.specs.Legs.{BodyModel, LegModel, body_size}
 use Rattle.master.specs.Cursors.{Play, done, again, sends, CursorModel, size, symbol_of, cursor_next, opening_of}
 use Rattle.law.proofs.Sides.{ends}
-use Rattle.law.specs.Legal.{LegalBody, LegalSecond, Legal}
-use Rattle.law.proofs.Alone.Moves.{leaves, moves}
+use Rattle.law.specs.Legal.{LegalBody, Legal}
 
 -- a repeated start, a leg and the stop
 abbrev pub slots_again : LegModel → ℕ
@@ -26,12 +25,6 @@ slots_left c = play_slots c.play
 play_some : (p : Play) → 1 ≤ play_slots p
 play_some p = grind arith
 
-leaves_slots : (o : Option LegModel) → play_slots (leaves o) ≡ slots_after o
-leaves_slots o = grind arith
-
-play_fewer : (p : Play) (heard : Bool) → ends (symbol_of p) ≡ false → play_slots (moves p heard) < play_slots p
-play_fewer p heard h = grind arith
-
 pub some_left : (c : CursorModel) → 1 ≤ slots_left c
 some_left c = play_some c.play
 
@@ -40,9 +33,6 @@ fewer c heard h = grind arith
 
 small : (b : BodyModel) → LegalBody b → body_size b ≤ 16
 small b h = grind arith
-
-second_small : (o : Option LegModel) → LegalSecond o → slots_after o ≤ 155
-second_small o h = grind arith
 
 pub at_most_308 : (t : TransferModel) → Legal t → slots_left (opening_of t) ≤ 308
 at_most_308 t h = grind arith

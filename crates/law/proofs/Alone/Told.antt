@@ -1,21 +1,13 @@
 -- Equal strings, over whatever ports, end with equal notes.
-use Rattle.std.proofs.Common.{◌≡◌, ℕ, zero, suc, ◌≤◌, Bool, true, false, cond, not, List, [], ◌∷◌, sym, refl, ap, ◌∙◌, subst, arith}
+use Rattle.std.proofs.Common.{◌≡◌, ℕ, zero, suc, ◌≤◌, Bool, true, false, cond, List, [], ◌∷◌, sym, refl, ap, ◌∙◌, subst, arith}
 use Rattle.std.proofs.lemmas.Bool.{true≢false, false≢true}
 use Rattle.master.specs.declared.symbol.Symbol.{Symbol}
-use Rattle.master.specs.declared.symbol.Symbol.TheVariants.{Zero, One, Listen, RepeatedStart, Stop}
 use Rattle.master.specs.Cursors.{Play, Notes, CursorModel, symbol_of, cursor_next}
 use Rattle.master.specs.Scripts.{transfers}
 use Rattle.law.proofs.Sides.{Side, ends, letter, heard, after, string, final}
-use Rattle.law.proofs.Alone.Alike.{Same, AlikePlay, Alike, listens, cursor_laws}
+use Rattle.law.proofs.Alone.Alike.{AlikePlay, Alike, cursor_laws}
 use Rattle.law.proofs.Alone.Moves.{notes_on, next_is}
 use Rattle.law.proofs.Alone.SlotsLeft.{slots_left, some_left, fewer}
-
--- a letter of a script that does not listen is its symbol
-abbrev shown_by : ℕ → Symbol
-shown_by zero = Zero
-shown_by (suc zero) = Stop
-shown_by (suc (suc zero)) = RepeatedStart
-shown_by (suc (suc (suc n))) = One
 
 -- the level that a letter carries
 abbrev level_by : ℕ → Bool
@@ -23,18 +15,9 @@ level_by zero = false
 level_by (suc zero) = false
 level_by (suc (suc n)) = true
 
-level_back : (pulled : Bool) → not pulled ≡ level_by (cond pulled 0 3)
-level_back pulled = grind arith
-
 module _ (D : Side) where
-  shown_is : (x : Symbol) (s : D.S) → listens x ≡ false → shown_by (letter D x s) ≡ x
-  shown_is x s h = grind arith
-
   heard_is : (x : Symbol) (s : D.S) → heard D x s ≡ level_by (letter D x s)
   heard_is x s = grind arith
-
-same_notes : (p q : Play) (n : Notes) (h : Bool) → Same p q → notes_on p n h ≡ notes_on q n h
-same_notes p q n h k = grind arith
 
 alike_notes : (p q : Play) (n : Notes) (h : Bool) → AlikePlay p q → symbol_of p ≡ symbol_of q → notes_on p n h ≡ notes_on q n h
 alike_notes p q n h k e = grind arith
@@ -54,10 +37,6 @@ still_twins c e b h k = record {
 }
 
 module _ (D E : Side) where
-  same_symbol : (x y : Symbol) (s : D.S) (t : E.S) → (x ≡ Listen → y ≡ Listen) → (y ≡ Listen → x ≡ Listen) → letter D x s ≡ letter E y t →
-      (b a : Bool) → listens x ≡ b → listens y ≡ a → x ≡ y
-  same_symbol x y s t h k e b a d g = grind arith
-
   twins_show : (c e : CursorModel) (s : D.S) (t : E.S) → Twins c e → letter D (symbol_of c.play) s ≡ letter E (symbol_of e.play) t → symbol_of c.play ≡ symbol_of e.play
   twins_show c e s t h k = grind arith
 

@@ -73,9 +73,6 @@ module _ (W : Script) (D : Side) (left : W.Cursor → ℕ) (Alike : W.Cursor →
   stands_armed _ _ _ _ _ _ (rose u os s0 l v sp cs k r s b n e j c m g q y) = ap (λ x. armeds W x.masters) e ∙ armeds_looks W (fresh W b) (fresh_keeps W b) cs ∙ sym g.armed
   stands_armed _ _ _ _ _ _ (high u os s0 l v sp cs k r s d c f n e j o z m g q y) = ap (λ x. armeds W x.masters) e ∙ armeds_looks W (settled W f) (λ m p. refl) cs ∙ sym g.armed
 
-  busy_not : (u u' : Bus W D) {s : D.S} → u ≡ u' → u'.wire.busy ≡ true → u.wire.busy ≡ false → u.side ≡ s
-  busy_not u u' h k e = grind arith
-
   stands_side : (u : Bus W D) (os : Tasks W) (s : D.S) (t : Option (Tasks W)) (w : Watch) (n : ℕ) → Stands W D left Alike Fits Rest u os s t w n → u.wire.busy ≡ false → u.side ≡ s
   stands_side u os s t w n h k = grind arith
 

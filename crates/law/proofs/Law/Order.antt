@@ -1,18 +1,12 @@
 -- Symbols by their ranks, the leading symbol, and who is kept.
-use Rattle.std.proofs.Common.{◌≡◌, ℕ, zero, suc, ◌≤◌, Bool, cond, eqb, ◌⊎◌, List, [], ◌∷◌, Some, None, Option, sym, refl, ◌∙◌, inl, inr, arith}
+use Rattle.std.proofs.Common.{◌≡◌, ℕ, zero, suc, ◌≤◌, Bool, ◌⊎◌, List, [], ◌∷◌, Some, None, Option, sym, refl, ◌∙◌, inl, inr, arith}
 use Rattle.std.proofs.Math.ListN.{get_or-map}
 use Rattle.std.proofs.lemmas.Bool.Decides.{nat_tests}
 use Rattle.master.specs.declared.symbol.Symbol.{Symbol}
-use Rattle.master.specs.declared.symbol.Symbol.TheVariants.{Zero, One, Listen, RepeatedStart, Stop}
+use Rattle.master.specs.declared.symbol.Symbol.TheVariants.{Listen}
 use Rattle.master.specs.Scripts.{Script}
 use Rattle.law.proofs.Law.Phases.{rank}
 use Rattle.law.proofs.Law.Race.{at, lower, lead, keep, keep_all}
-
-abbrev named : ℕ → Symbol
-named n = cond (eqb n 0) Zero (cond (eqb n 1) Stop (cond (eqb n 2) RepeatedStart (cond (eqb n 3) One Listen)))
-
-named_rank : (x : Symbol) → named (rank x) ≡ x
-named_rank x = grind arith
 
 pub rank_inj : (x y : Symbol) → rank x ≡ rank y → x ≡ y
 rank_inj x y h = grind arith

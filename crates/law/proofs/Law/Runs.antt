@@ -1,5 +1,5 @@
 -- The slots of an open turn: what the live cursors and the side keep, and what a slot carries.
-use Rattle.std.proofs.Common.{◌≡◌, ℕ, zero, suc, ◌+◌, ◌<◌, ◌≤◌, min, Bool, true, false, cond, not, ◌||◌, eqb, ltb, ◌⊎◌, List, [], ◌∷◌, ◌++◌, Some, None, Option, sym, refl, ap, ◌∙◌, subst, ap₂, inl, inr, arith}
+use Rattle.std.proofs.Common.{◌≡◌, ℕ, zero, suc, ◌+◌, ◌<◌, ◌≤◌, min, Bool, true, false, cond, not, ◌||◌, eqb, ◌⊎◌, List, [], ◌∷◌, ◌++◌, Some, None, Option, sym, refl, ap, ◌∙◌, subst, ap₂, inl, inr, arith}
 use Rattle.std.proofs.lemmas.Bool.Decides.{nat_tests}
 use Rattle.std.proofs.lemmas.Bool.{cases_lt}
 use Rattle.master.specs.declared.symbol.Symbol.{Symbol}
@@ -15,9 +15,6 @@ use Rattle.law.proofs.Law.Lists.{rank_top}
 use Rattle.law.proofs.Law.Stays.{alive_least}
 use Rattle.law.proofs.Law.Order.{rank_inj, top_listens, lead_least, lead_shown}
 use Rattle.law.proofs.Law.Fates.{moves, not_end, Fair, fair_next, kept_at}
-
-pulls_rank : (x : Symbol) → pulls_sda x ≡ ltb (rank x) 2
-pulls_rank x = grind arith
 
 pulls_lower : (x y : Symbol) → pulls_sda (lower x y) ≡ (pulls_sda x || pulls_sda y)
 pulls_lower x y = grind arith
@@ -40,9 +37,6 @@ module _ (D : Side) where
 
   pub after_bit : (x : Symbol) (s : D.S) → (rank x ≡ 1 → ⊥) → (rank x ≡ 2 → ⊥) → after D x s ≡ D.bit s (heard D x s)
   after_bit x s h k = grind arith
-
-  pull_letter : (b : Bool) → cond b 0 3 ≡ bit_letter (not b)
-  pull_letter b = grind arith
 
   pub letter_bit : (x : Symbol) (s : D.S) → (rank x ≡ 1 → ⊥) → (rank x ≡ 2 → ⊥) → letter D x s ≡ bit_letter (heard D x s)
   letter_bit x s h k = grind arith

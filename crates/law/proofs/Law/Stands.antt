@@ -1,7 +1,6 @@
 -- The invariant of a bus and its book, between any two steps; and that an arm keeps it.
 use Rattle.std.proofs.Common.{◌≡◌, ℕ, zero, suc, ◌+◌, ◌-◌, ◌*◌, ◌≤◌, Bool, true, false, not, ◌||◌, ◌⊎◌, List, [], ◌∷◌, Some, None, Option, unwrap_or, sym, refl, ap, ◌∙◌, subst, inl, inr, arith}
-use Rattle.master.specs.declared.symbol.Symbol.{Symbol}
-use Rattle.master.specs.Masters.{MasterModel, rises}
+use Rattle.master.specs.Masters.{MasterModel}
 use Rattle.master.specs.Scripts.{Script}
 use Rattle.master.specs.Symbols.{pulls_sda}
 use Rattle.law.proofs.Sides.{Side}
@@ -61,9 +60,6 @@ module _ (W : Script) (D : Side) (left : W.Cursor → ℕ) (Alike : W.Cursor →
         Stands u os s0 (Some l) (watch (suc k) true v sp) n
 
 module _ (W : Script) where
-  rise_keeps : (m : MasterModel W) (p : W.Cursor) (x : Symbol) (b : Bool) → (rises W m x p b).0.arming ≡ m.arming
-  rise_keeps m p x b = grind arith
-
   pub fresh_keeps : (b : Bool) (m : MasterModel W) (p : W.Cursor) → (fresh W b m p).arming ≡ m.arming
   fresh_keeps b m p = grind arith
 

@@ -64,9 +64,6 @@ module _ (ds : List Behaviour) (d : Bank Placed ds) where
   abbrev pub lead : List (Option TransferModel) → Option TransferModel
   lead l = leader transfers (ports_side ds) slots_left l side
 
-  cond_legal : (b : Bool) (t u : TransferModel) → Legal t → Legal u → Legal (cond b t u)
-  cond_legal b t u h k = grind arith
-
   pick_legal : (t : TransferModel) (o : Option TransferModel) → Legal t → LegalIf o → Legal (pick transfers (ports_side ds) slots_left t o side)
   pick_legal t o h k = grind arith
 

@@ -1,5 +1,5 @@
 -- How long the ports together hold SCL: the largest hold of all.
-use Rattle.std.proofs.Common.{◌≡◌, ℕ, ◌-◌, ◌≤◌, max, Bool, cond, ◌||◌, ltb, List, [], ◌∷◌, Some, None, Option, refl, ap, ◌∙◌, arith}
+use Rattle.std.proofs.Common.{◌≡◌, ℕ, ◌-◌, ◌≤◌, max, Bool, ◌||◌, ltb, List, [], ◌∷◌, Some, None, Option, refl, ap, ◌∙◌, arith}
 use Rattle.std.proofs.lemmas.Bool.Decides.{nat_tests}
 use Rattle.device.specs.Behaviours.{Behaviour}
 use Rattle.port.specs.declared.port.Mode.{Mode}
@@ -7,7 +7,7 @@ use Rattle.wire.specs.declared.wire.Event.{Event}
 use Rattle.wire.specs.declared.wire.Event.TheVariants.{Rise, Fall, Start, Stop, SteadyHigh, SteadyLow}
 use Rattle.law.specs.Banks.{Bank, listed}
 use Rattle.law.specs.Buses.{all_pulls, Holds, ports_step}
-use Rattle.port.specs.Ports.{PortModel, port_pulls, reads_on, counts}
+use Rattle.port.specs.Ports.{PortModel, port_pulls, counts}
 use Rattle.law.proofs.Law.Machine.{hold_after}
 
 abbrev pub longest_hold : (ds : List Behaviour) → Bank PortModel ds → ℕ
@@ -66,12 +66,6 @@ hold_follows ds p SteadyHigh o i a h = still ds p SteadyHigh o i a (λ k. cc) re
 hold_follows ds p (Rise x) o i a h = still ds p (Rise x) o i a (λ k. cc) refl
 
 module _ (b : Behaviour) where
-  small_if : (t : Bool) (p q : PortModel b) → p.hold ≤ 255 → q.hold ≤ 255 → (cond t p q).hold ≤ 255
-  small_if t p q h k = grind arith
-
-  small_reads : (p : PortModel b) (x : Bool) (a : ℕ × b.Meaning) (h : ℕ) → p.hold ≤ 255 → h ≤ 255 → (reads_on b p x a h).hold ≤ 255
-  small_reads p x a h k e = grind arith
-
   small_counts : (p : PortModel b) (m : Mode) (x : Bool) (h : ℕ) → p.hold ≤ 255 → h ≤ 255 → (counts b p m x h).hold ≤ 255
   small_counts p m x h k e = grind arith
 
