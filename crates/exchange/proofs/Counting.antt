@@ -1,5 +1,8 @@
 -- A run counted tick by tick.
-use Rattle.std.proofs.Common.{◌≡◌, ℕ, zero, suc, ◌+◌, ◌-◌, ◌<◌, ◌≤◌, true, false, cond, ltb, ◌⊎◌, List, [], ◌∷◌, length, replicate, Ok, Err, sym, refl, ap, ◌∙◌, subst, inl, inr, add-zero, add-one, arith, le-ltb, lt-ltb}
+use Rattle.std.proofs.Common.{◌≡◌, ℕ, zero, suc, ◌+◌, ◌-◌, ◌<◌, ◌≤◌, true, false, cond, ltb, ◌⊎◌, List, [], ◌∷◌, length, replicate, Ok, Err, sym, refl, ap, ◌∙◌, subst, inl, inr, add-one, arith, le-ltb, lt-ltb, is_some, Option}
+use Rattle.std.proofs.lemmas.List.Sums.{sum_by-cons}
+use Rattle.std.proofs.lemmas.List.Folds.{sum_by-replicate}
+use Rattle.transfer.specs.Outcomes.{OutcomeModel}
 use Rattle.device.specs.Behaviours.{Behaviour}
 use Rattle.host.specs.Behaviours.{HostBehaviour}
 use Rattle.master.specs.declared.mark.Mark.{Mark}
@@ -10,25 +13,21 @@ use Rattle.law.specs.Buses.{BusModel, Holds, over, tick_at, told_at, is_at_rest}
 use Rattle.master.specs.Serving.{Served, mark_of, outcome_told, served_mark, served_told}
 use Rattle.master.specs.Masters.{VerdictModel, quiet, lost, told, master_step}
 use Rattle.master.specs.Scripts.{transfers}
-use Rattle.law.specs.Runs.{how_many, tolds, Running, setting_out, ticked, goes_on, load, run_at}
+use Rattle.law.specs.Runs.{how_many, is_told, tolds, Running, setting_out, ticked, goes_on, load, run_at}
 
-none_told : (k : ℕ) → tolds (replicate k Quiet) ≡ 0
-none_told zero = refl
-none_told (suc k) = none_told k
-
-one_more : (v : VerdictModel transfers) (ms : List Mark) (n : ℕ) → tolds ms ≡ n → tolds (mark_of v ∷ ms) ≡ how_many (outcome_told v ∷ []) + n
-one_more quiet ms n e = omega arith
-one_more lost ms n e = omega arith
-one_more (told o) ms n e = omega arith
+told_marks : (v : VerdictModel transfers) (ms : List Mark) (os : List (Option OutcomeModel)) → tolds ms ≡ how_many os → tolds (mark_of v ∷ ms) ≡ how_many (outcome_told v ∷ os)
+told_marks quiet ms os e = e
+told_marks lost ms os e = e
+told_marks (told o) ms os e =
+    omega (arith, sum_by-cons (λ m. cond (is_told m) 1 0) (mark_of (told o)) ms, sum_by-cons (λ o. cond (is_some o) 1 0) (outcome_told (told o)) os)
 
 -- a tick's marks tell all of its outcomes where each master has a place
 pub tolds_are_all : (hs : List HostBehaviour) (s : Signal) (p : Bank Served hs) (k : ℕ) → length hs ≤ k →
     tolds (over (listed (λ h. served_mark h s) hs p) (replicate k Quiet)) ≡ how_many (listed (λ h. served_told h s) hs p)
-tolds_are_all [] s p k h = none_told k
+tolds_are_all [] s p k h = sum_by-replicate (λ m. cond (is_told m) 1 0) k Quiet ∙ omega arith
 tolds_are_all (b ∷ hs) s p zero h = absurd (omega arith)
 tolds_are_all (b ∷ hs) s p (suc k) h =
-    one_more (master_step transfers p.0.master s).1 _ _ (tolds_are_all hs s p.1 k (omega arith))
-    ∙ ap (λ n. n + how_many (listed (λ h. served_told h s) hs p.1)) (add-zero _)
+    told_marks (master_step transfers p.0.master s).1 (over (listed (λ h. served_mark h s) hs p.1) (replicate k Quiet)) (listed (λ h. served_told h s) hs p.1) (tolds_are_all hs s p.1 k (omega arith))
 
 -- no device asks to hold
 no_holds : (ds : List Behaviour) → Holds ds

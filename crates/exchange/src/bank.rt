@@ -3,8 +3,8 @@ ghost use Rattle.std.specs.Prelude.{◌≡◌, List, [], ◌∷◌};
 ghost use Rattle.device.specs.Behaviours.{Behaviour};
 ghost use Rattle.host.specs.Behaviours.{HostBehaviour};
 ghost use Rattle.transfer.specs.Refusals.{answer};
-ghost use Rattle.law.specs.Banks.{Bank, each, listed};
-ghost use Rattle.law.specs.Buses.{all_pulls, any_of, arm_nth, over, Holds, ports_step};
+ghost use Rattle.law.specs.Banks.{any_true, Bank, each, listed};
+ghost use Rattle.law.specs.Buses.{all_pulls, arm_nth, over, Holds, ports_step};
 ghost use Rattle.master.specs.Serving.{Served, served_pulls, served_armed, served_new, served_step, served_mark, served};
 ghost use Rattle.port.specs.Ports.{port_new, PortModel, port_model, port_pulls};
 ghost use Rattle.law.specs.Laws.{Clocked};
@@ -30,7 +30,7 @@ pub trait Masters {
         ensures { result ≡ all_pulls (listed served_pulls hosts (stand self.now)) };
 
     fn any_armed(&self) -> bool
-        ensures { result ≡ any_of (listed served_armed hosts (stand self.now)) };
+        ensures { result ≡ any_true (listed served_armed hosts (stand self.now)) };
 
     // As at the making: no master is armed or pulls.
     fn reset(&mut self)

@@ -1,5 +1,5 @@
 -- The worked examples, computed.
-use Rattle.std.proofs.Common.{◌≡◌, ℕ, false, List, [], ◌∷◌, replicate, slice_set, Some, None, Option, refl, ◌∙◌, ap₂}
+use Rattle.std.proofs.Common.{◌≡◌, ℕ, false, List, [], ◌∷◌, replicate, slice_set, Some, None, Option, refl, arith}
 use Rattle.transfer.specs.declared.draft.Transfer.{Transfer}
 use Rattle.transfer.specs.Drafts.{TransferModel, transfer_model}
 use Rattle.transfer.specs.Outcomes.{OutcomeModel}
@@ -31,13 +31,7 @@ module _ (b : Behaviour) (m : b.Meaning) where
       tells a c ≡ told_0 ∷ told_1 ∷ [] → device_after a c ≡ placed b after →
       (standings f g a c).0.standing ≡ standing_0 → (standings f g a c).1.0.standing ≡ standing_1 →
       Turn b f g m told_0 told_1 after standing_0 standing_1
-  turn f g a c told_0 told_1 after standing_0 standing_1 e h t d x y =
-      record {
-        told = ap₂ (λ p q. tells p q) e h ∙ t;
-        device = ap₂ (λ p q. device_after p q) e h ∙ d;
-        first = ap₂ (λ p q. (standings f g p q).0.standing) e h ∙ x;
-        second = ap₂ (λ p q. (standings f g p q).1.0.standing) e h ∙ y;
-      }
+  turn f g a c told_0 told_1 after standing_0 standing_1 h k e d q r = grind arith
 
 wins : (a c : TransferModel) (xs : List ℕ) (after : Registers) →
     tells register_file new_registers a c ≡ done xs ∷ None ∷ [] → device_after register_file new_registers a c ≡ placed register_file after →
@@ -46,17 +40,7 @@ wins : (a c : TransferModel) (xs : List ℕ) (after : Registers) →
 wins a c xs after t d x y f g e h = turn register_file new_registers f g a c (done xs) None after unarmed armed e h t d (x f g) (y f g)
 
 pub strings : StringExamples
-strings =
-    record {
-      write_of_one = refl;
-      no_port_answers = refl;
-      select_gets_no = refl;
-      put_gets_no = refl;
-      read_of_two = refl;
-      write_then_read = refl;
-      finish_at_restart = refl;
-      finish_at_stop = refl;
-    }
+strings = grind arith
 
 turns : TurnExamples
 turns =
@@ -72,19 +56,7 @@ turns =
     }
 
 refusals : RefusedExamples
-refusals =
-    record {
-      address_7 = refl;
-      address_120 = refl;
-      address_8 = refl;
-      address_119 = refl;
-      counts_0_1 = refl;
-      counts_1_255 = refl;
-      read_0 = λ d. refl;
-      read_17 = λ d. refl;
-      write_17 = λ xs d e. rw e;
-      read_16 = λ d. refl;
-    }
+refusals = grind arith
 
 pub worked_examples : WorkedExamples
 worked_examples = record { refusals = refusals; turns = turns; queue = record { joined = refl; taken = refl } }

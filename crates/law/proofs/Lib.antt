@@ -1,4 +1,3 @@
-pub mod Tolds
 pub mod Sides
 pub mod Alone
 pub mod Law

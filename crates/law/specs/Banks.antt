@@ -1,5 +1,6 @@
 -- Parts of many makes side by side: one part and the rest. Assumes nothing.
-use Rattle.std.specs.Prelude.{List, [], ◌∷◌}
+use Rattle.std.specs.Prelude.{ℕ, zero, suc, Bool, List, [], ◌∷◌}
+use Rattle.std.specs.List.{list_any}
 
 -- something of each behaviour of a list
 abbrev pub Bank : {B : Type 1} → (B → Type 0) → List B → Type 0
@@ -15,3 +16,18 @@ each f (b ∷ bs) p = (f b p.0, each f bs p.1)
 abbrev pub listed : {B : Type 1} {F : B → Type 0} {X : Type 0} → ((b : B) → F b → X) → (bs : List B) → Bank F bs → List X
 listed f [] p = []
 listed f (b ∷ bs) p = f b p.0 ∷ listed f bs p.1
+
+-- something holds of each part
+abbrev pub Every : {B : Type 1} {F : B → Type 0} → ((b : B) → F b → Type 0) → (bs : List B) → Bank F bs → Type 0
+Every Q [] p = Unit {0}
+Every Q (b ∷ bs) p = Q b p.0 × Every Q bs p.1
+
+-- part n, counted from 0, answers and takes a step; where there is none the answer is r
+abbrev pub nth : {B : Type 1} {F : B → Type 0} {R : Type 0} → R → ((b : B) → F b → R × F b) → (bs : List B) → Bank F bs → ℕ → R × Bank F bs
+nth r f [] p n = (r, tt)
+nth r f (b ∷ bs) p zero = let a = f b p.0 in (a.0, (a.1, p.1))
+nth r f (b ∷ bs) p (suc n) = let a = nth r f bs p.1 n in (a.0, (p.0, a.1))
+
+-- whether one of them answers with yes
+abbrev pub any_true : List Bool → Bool
+any_true vs = list_any (λ v. v) vs

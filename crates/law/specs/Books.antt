@@ -1,5 +1,5 @@
 -- The turn book: who is armed, who contends, and what each host and device means, by turns alone. Assumes nothing.
-use Rattle.std.specs.Prelude.{ℕ, zero, suc, Bool, true, false, cond, ◌||◌, List, [], ◌∷◌, Some, None, Ok, Err, Option, Result}
+use Rattle.std.specs.Prelude.{ℕ, Bool, true, false, cond, List, [], ◌∷◌, map, Some, None, Ok, Err, Option, Result}
 use Rattle.std.specs.Option.{option_map}
 use Rattle.transfer.specs.declared.draft.Transfer.{Transfer}
 use Rattle.transfer.specs.Drafts.{TransferModel, transfer_model}
@@ -8,7 +8,7 @@ use Rattle.device.specs.Behaviours.{Behaviour}
 use Rattle.host.specs.Behaviours.{HostBehaviour}
 use Rattle.wire.specs.declared.wire.Event.{Event}
 use Rattle.wire.specs.declared.wire.Event.TheVariants.{Rise, Fall, Start, Stop, SteadyHigh, SteadyLow}
-use Rattle.law.specs.Banks.{Bank, each, listed}
+use Rattle.law.specs.Banks.{Bank, each, listed, nth, any_true}
 use Rattle.law.specs.Carrying.{Placed, Carried, carried}
 use Rattle.law.specs.Strings.{same_string, first_or_same}
 
@@ -54,15 +54,9 @@ module _ (h : HostBehaviour) where
   leaves x None = record { meaning = x.meaning; standing = x.standing; contends = false }
   leaves x (Some o) = record { meaning = h.told x.meaning o; standing = unarmed; contends = false }
 
--- master n, counted from 0; past the last there is none
+-- past the last master the answer is 5
 abbrev pub entry_arm_nth : (hs : List HostBehaviour) → Bank Entry hs → ℕ → Result (Unit {0}) ℕ × Bank Entry hs
-entry_arm_nth [] p n = (Err 5, tt)
-entry_arm_nth (h ∷ hs) p zero = let a = entry_arms h p.0 p.0.standing (h.want p.0.meaning) in (a.0, (a.1, p.1))
-entry_arm_nth (h ∷ hs) p (suc n) = let a = entry_arm_nth hs p.1 n in (a.0, (p.0, a.1))
-
-abbrev pub any_true : List Bool → Bool
-any_true [] = false
-any_true (v ∷ vs) = v || any_true vs
+entry_arm_nth hs p n = nth (Err 5) (λ h x. entry_arms h x x.standing (h.want x.meaning)) hs p n
 
 -- what each master is told, in their order
 abbrev pub leave_all : (hs : List HostBehaviour) → Bank Entry hs → List (Option OutcomeModel) → Bank Entry hs
@@ -88,10 +82,8 @@ module _ (ds : List Behaviour) where
   told_if best (Some c) = cond (same_string c.letters best.letters) (Some c.outcome) None
 
   abbrev pub told_all : Option (Carried ds) → List (Option (Carried ds)) → List (Option OutcomeModel)
-  told_all None [] = []
-  told_all None (c ∷ cs) = None ∷ told_all None cs
-  told_all (Some best) [] = []
-  told_all (Some best) (c ∷ cs) = told_if best c ∷ told_all (Some best) cs
+  told_all None cs = map (λ c. None) cs
+  told_all (Some best) cs = map (told_if best) cs
 
   -- the devices take the steps of the least string once
   abbrev pub devices_after : Option (Carried ds) → Bank Placed ds → Bank Placed ds

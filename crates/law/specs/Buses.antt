@@ -1,5 +1,5 @@
 -- A bus, and what an arm and a tick make of it. Assumes nothing.
-use Rattle.std.specs.Prelude.{ℕ, zero, suc, ◌<◌, Bool, false, not, ◌&&◌, ◌||◌, List, [], ◌∷◌, replicate, Err, Option, Result}
+use Rattle.std.specs.Prelude.{ℕ, ◌<◌, Bool, not, ◌&&◌, List, [], ◌∷◌, replicate, Err, Option, Result}
 use Rattle.device.specs.Behaviours.{Behaviour}
 use Rattle.host.specs.Behaviours.{HostBehaviour}
 use Rattle.transfer.specs.Outcomes.{OutcomeModel}
@@ -10,7 +10,7 @@ use Rattle.wire.specs.declared.wire.Levels.{Levels}
 use Rattle.wire.specs.declared.wire.Pulls.{Pulls}
 use Rattle.wire.specs.declared.wire.Signal.{Signal}
 use Rattle.wire.specs.declared.wire.Wire.{Wire}
-use Rattle.law.specs.Banks.{Bank, each, listed}
+use Rattle.law.specs.Banks.{Bank, each, listed, nth, any_true}
 use Rattle.master.specs.Serving.{Served, served_step, served_mark, served_told, served_pulls, served_armed, served_new, served_arm}
 use Rattle.port.specs.Ports.{PortModel, port_pulls, port_step, port_new}
 use Rattle.wire.specs.Wires.{no_pulls, both, levels_of, event, signal, wire_after, quiet_wire}
@@ -19,15 +19,9 @@ abbrev pub all_pulls : List Pulls → Pulls
 all_pulls [] = no_pulls
 all_pulls (p ∷ ps) = both p (all_pulls ps)
 
-abbrev pub any_of : List Bool → Bool
-any_of [] = false
-any_of (b ∷ bs) = b || any_of bs
-
--- master n, counted from 0; there is none at the end of the bank
+-- past the last master the answer is 5
 abbrev pub arm_nth : (hs : List HostBehaviour) → Bank Served hs → ℕ → Result (Unit {0}) ℕ × Bank Served hs
-arm_nth [] p n = (Err 5, tt)
-arm_nth (h ∷ hs) p zero = let a = served_arm h p.0 in (a.0, (a.1, p.1))
-arm_nth (h ∷ hs) p (suc n) = let a = arm_nth hs p.1 n in (a.0, (p.0, a.1))
+arm_nth hs p n = nth (Err 5) served_arm hs p n
 
 -- an answer to hold
 abbrev pub Held : Type 0
@@ -88,7 +82,7 @@ module _ (hs : List HostBehaviour) (ds : List Behaviour) where
   told_at u = listed (λ h. served_told h (signal u.wire (levels_at u))) hs u.masters
 
   abbrev pub any_armed : BusModel → Bool
-  any_armed u = any_of (listed served_armed hs u.masters)
+  any_armed u = any_true (listed served_armed hs u.masters)
 
   -- the bus is free and no master is armed
   abbrev pub is_at_rest : BusModel → Bool

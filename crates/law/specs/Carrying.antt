@@ -1,5 +1,5 @@
 -- A transfer carried alone over the ports, byte by byte: its string, its outcome and the devices after it. Assumes nothing.
-use Rattle.std.specs.Prelude.{ℕ, zero, suc, ◌+◌, ◌*◌, Bool, true, false, cond, ◌||◌, List, [], ◌∷◌, ◌++◌, map, Some, None, Option, ◌==◌, bit_and}
+use Rattle.std.specs.Prelude.{ℕ, zero, suc, ◌+◌, ◌*◌, Bool, true, false, cond, List, [], ◌∷◌, ◌++◌, map, Some, None, Option, ◌==◌, bit_and}
 use Rattle.transfer.specs.declared.leg.Direction.{Direction}
 use Rattle.transfer.specs.declared.outcome.OutcomeKind.{OutcomeKind}
 use Rattle.transfer.specs.declared.outcome.OutcomeKind.TheVariants.{Done, NoAnswer, Refused}
@@ -7,7 +7,7 @@ use Rattle.transfer.specs.Drafts.{TransferModel}
 use Rattle.transfer.specs.Legs.{BodyModel, writes, reads, LegModel, body_direction}
 use Rattle.transfer.specs.Outcomes.{OutcomeModel}
 use Rattle.device.specs.Behaviours.{Behaviour}
-use Rattle.law.specs.Banks.{Bank, each, listed}
+use Rattle.law.specs.Banks.{Bank, each, listed, any_true}
 use Rattle.wire.specs.Octets.{digit}
 use Rattle.port.specs.Ports.{answers_to}
 use Rattle.law.specs.Strings.{Letter, stop, restart, bit_letter}
@@ -59,10 +59,6 @@ abbrev pub joined : List ℕ → ℕ
 joined [] = 255
 joined (x ∷ xs) = bit_and x (joined xs)
 
-abbrev pub any_in : List Bool → Bool
-any_in [] = false
-any_in (v ∷ vs) = v || any_in vs
-
 -- the byte that calls for a leg: the address, and a lowest bit of 1 for a read
 abbrev pub call_byte : ℕ → BodyModel → ℕ
 call_byte a (writes xs) = a * 2
@@ -88,7 +84,7 @@ module _ (ds : List Behaviour) where
   after_byte ls xs r = record { levels = ls ++ r.levels; bytes = xs ++ r.bytes; kind = r.kind; devices = r.devices }
 
   abbrev pub somebody : Bank Taking ds → Bool
-  somebody d = any_in (listed is_in ds d)
+  somebody d = any_true (listed is_in ds d)
 
   -- byte n of leg k and those after it; an acknowledge is N with none in, and ends the transfer
   abbrev pub written : ℕ → List ℕ → ℕ → Bank Taking ds → Passed

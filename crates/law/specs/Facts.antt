@@ -1,11 +1,12 @@
 -- What holds of the strings and of the bytes of transfers carried alone. Assumes nothing.
 use Rattle.std.specs.Prelude.{◌≡◌, ℕ, zero, suc, ◌+◌, ◌*◌, ◌<◌, ◌≤◌, true, false, ◌⊎◌, ◌↔◌, List, [], ◌∷◌, ◌++◌, length, take, Some, None, Option, ◌≢◌, nat_lt, slice_index, slice_index_or}
+use Rattle.std.specs.List.{fold}
 use Rattle.transfer.specs.declared.leg.Direction.TheVariants.{Write, Read}
 use Rattle.transfer.specs.declared.outcome.OutcomeKind.TheVariants.{Done}
 use Rattle.transfer.specs.Drafts.{TransferModel}
 use Rattle.transfer.specs.Legs.{writes, reads, LegModel}
 use Rattle.device.specs.Behaviours.{Behaviour}
-use Rattle.law.specs.Banks.{Bank, each, listed}
+use Rattle.law.specs.Banks.{Bank, each, listed, Every}
 use Rattle.law.specs.Carrying.{Placed, Taking, selected, put_to, taken_from, gives, joined, somebody, passed, carried}
 use Rattle.law.specs.Legal.{Legal}
 use Rattle.wire.specs.Octets.{digit}
@@ -79,15 +80,10 @@ abbrev pub Exists : {F : Behaviour → Type 0} → ((b : Behaviour) → F b → 
 Exists Q [] d = ⊥
 Exists Q (b ∷ ds) d = Q b d.0 ⊎ Exists Q ds d.1
 
-abbrev pub Every : {F : Behaviour → Type 0} → ((b : Behaviour) → F b → Type 0) → (ds : List Behaviour) → Bank F ds → Type 0
-Every Q [] d = Unit {0}
-Every Q (b ∷ ds) d = Q b d.0 × Every Q ds d.1
-
 module _ (ds : List Behaviour) where
   -- the devices in a leg after these bytes were put, or after this many were taken
   abbrev pub having : List ℕ → Bank Taking ds → Bank Taking ds
-  having [] e = e
-  having (x ∷ xs) e = having xs (each (λ b. put_to b x) ds e)
+  having xs e = fold (λ p x. each (λ b. put_to b x) ds p) e xs
 
   abbrev pub given : ℕ → Bank Taking ds → Bank Taking ds
   given zero e = e

@@ -1,13 +1,14 @@
 -- The law over every use of a bus, in the words of turns, strings and the turn book. Assumes nothing.
 use Rattle.std.specs.Prelude.{◌≡◌, ℕ, zero, suc, ◌+◌, ◌<◌, ◌≤◌, Bool, true, false, cond, not, ◌||◌, ◌↔◌, List, [], ◌∷◌, ◌++◌, length, get_or, is_some, is_ok, Some, None, Ok, Option, Result, nat_lt, slice_index_or}
+use Rattle.std.specs.List.{fold, count_by}
 use Rattle.device.specs.Behaviours.{Behaviour}
 use Rattle.host.specs.Behaviours.{HostBehaviour}
 use Rattle.master.specs.declared.mark.Mark.{Mark}
 use Rattle.master.specs.declared.mark.Mark.TheVariants.{Quiet, Told, Lost}
 use Rattle.wire.specs.declared.wire.Event.{Event}
 use Rattle.wire.specs.declared.wire.Event.TheVariants.{Rise, Fall, Start, Stop, SteadyHigh, SteadyLow}
-use Rattle.law.specs.Banks.{Bank, each, listed}
-use Rattle.law.specs.Books.{unarmed, Entry, standing_of, any_true, Book, book_arm, book_tells, book_after, contests, least}
+use Rattle.law.specs.Banks.{Bank, each, listed, Every, any_true}
+use Rattle.law.specs.Books.{unarmed, Entry, standing_of, Book, book_arm, book_tells, book_after, contests, least}
 use Rattle.law.specs.Buses.{BusModel, Holds, made, arm_at, levels_at, tick_at, told_at, is_at_rest}
 use Rattle.master.specs.Serving.{Served, served_armed, served_mark, served_pulls}
 use Rattle.law.specs.Carrying.{Placed, Carried}
@@ -59,8 +60,7 @@ abbrev pub notes_lost : Watch → List Mark → Watch
 notes_lost w ks = watching w.falls w.risen (marked_too w.marked ks) w.latch w.spelled
 
 abbrev pub how_many_true : List Bool → ℕ
-how_many_true [] = 0
-how_many_true (v ∷ vs) = cond v 1 0 + how_many_true vs
+how_many_true vs = count_by (λ v. v) vs
 
 -- index c is the first at which u differs from t, and there t comes first
 pub record FirstDifference (t u : List Letter) (c : ℕ) : Type 0 where
@@ -71,8 +71,7 @@ pub record FirstDifference (t u : List Letter) (c : ℕ) : Type 0 where
 
 -- every clock count is 1 to 255
 abbrev pub Clocked : (hs : List HostBehaviour) → Bank Served hs → Type 0
-Clocked [] ms = Unit {0}
-Clocked (h ∷ hs) ms = ((1 ≤ ms.0.master.low) × (ms.0.master.low ≤ 255) × (1 ≤ ms.0.master.high) × (ms.0.master.high ≤ 255)) × Clocked hs ms.1
+Clocked hs ms = Every (λ h x. (1 ≤ x.master.low) × (x.master.low ≤ 255) × (1 ≤ x.master.high) × (x.master.high ≤ 255)) hs ms
 
 module _ (hs : List HostBehaviour) (ds : List Behaviour) where
   -- a call: an arm, a tick with the answers to hold in it, or a run with the answers in each of its ticks
@@ -129,8 +128,7 @@ module _ (hs : List HostBehaviour) (ds : List Behaviour) where
   calls x (runs n a) = cond (nat_lt 1000000 n) x (run_on n 0 a x)
 
   abbrev pub used : Use → List Call → Use
-  used x [] = x
-  used x (c ∷ cs) = used (calls x c) cs
+  used x cs = fold calls x cs
 
   abbrev pub new_entry : (h : HostBehaviour) → Served h → Entry h
   new_entry h x = record { meaning = x.meaning; standing = unarmed; contends = false }

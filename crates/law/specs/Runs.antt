@@ -1,5 +1,6 @@
 -- A run: ticks until the bus is at rest or so many are made, and its load. Assumes nothing.
-use Rattle.std.specs.Prelude.{ℕ, zero, suc, ◌+◌, ◌*◌, ◌/◌, cond, List, [], ◌∷◌, is_some, Ok, Err, Option, Result, ◌==◌, nat_lt}
+use Rattle.std.specs.Prelude.{ℕ, zero, suc, ◌+◌, ◌*◌, ◌/◌, Bool, true, false, cond, List, is_some, Ok, Err, Option, Result, ◌==◌, nat_lt}
+use Rattle.std.specs.List.{count_by}
 use Rattle.device.specs.Behaviours.{Behaviour}
 use Rattle.host.specs.Behaviours.{HostBehaviour}
 use Rattle.master.specs.declared.mark.Mark.{Mark}
@@ -7,15 +8,16 @@ use Rattle.master.specs.declared.mark.Mark.TheVariants.{Quiet, Told, Lost}
 use Rattle.law.specs.Buses.{BusModel, Holds, tick_at, told_at, is_at_rest}
 
 abbrev pub how_many : {A : Type 0} → List (Option A) → ℕ
-how_many [] = 0
-how_many (o ∷ os) = cond (is_some o) 1 0 + how_many os
+how_many os = count_by is_some os
+
+abbrev pub is_told : Mark → Bool
+is_told Quiet = false
+is_told Told = true
+is_told Lost = false
 
 -- how many were told, by the marks of a tick
 abbrev pub tolds : List Mark → ℕ
-tolds [] = 0
-tolds (Quiet ∷ ms) = tolds ms
-tolds (Told ∷ ms) = suc (tolds ms)
-tolds (Lost ∷ ms) = tolds ms
+tolds ms = count_by is_told ms
 
 -- busy ticks in thousandths of all, a half rounded up; 0 for no ticks
 abbrev pub load : ℕ → ℕ → ℕ

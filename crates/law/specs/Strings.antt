@@ -1,5 +1,6 @@
 -- Letters and strings: what a transfer puts on the lines, and which string comes first. Assumes nothing.
-use Rattle.std.specs.Prelude.{ℕ, Bool, true, false, cond, ◌&&◌, List, [], ◌∷◌, ◌==◌, nat_lt}
+use Rattle.std.specs.Prelude.{ℕ, Bool, true, false, cond, List, [], ◌∷◌, ◌==◌, nat_lt}
+use Rattle.std.specs.Cmp.Lexicographic.{pointwise}
 
 -- a bit, a stop or a repeated start
 pub data Letter : Type 0 where
@@ -20,10 +21,7 @@ abbrev pub same_letter : Letter → Letter → Bool
 same_letter a b = rank a == rank b
 
 abbrev pub same_string : List Letter → List Letter → Bool
-same_string [] [] = true
-same_string [] (u ∷ us) = false
-same_string (t ∷ ts) [] = false
-same_string (t ∷ ts) (u ∷ us) = same_letter t u && same_string ts us
+same_string ts us = pointwise same_letter ts us
 
 -- t comes first, or is the same: strings compare at the first difference
 abbrev pub first_or_same : List Letter → List Letter → Bool

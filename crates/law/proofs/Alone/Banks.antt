@@ -1,12 +1,11 @@
 -- Banks: one step after another is one step.
 use Rattle.std.proofs.Common.{◌≡◌, Bool, false, ◌||◌, List, [], ◌∷◌, refl}
 use Rattle.device.specs.Behaviours.{Behaviour}
-use Rattle.law.specs.Banks.{Bank, each, listed}
-use Rattle.law.specs.Carrying.{any_in}
+use Rattle.law.specs.Banks.{Bank, each, listed, any_true}
 
 -- whether one of them answers true
 abbrev pub any : {F : Behaviour → Type 0} → ((b : Behaviour) → F b → Bool) → (ds : List Behaviour) → Bank F ds → Bool
-any q ds d = any_in (listed q ds d)
+any q ds d = any_true (listed q ds d)
 
 pub each_each : {F G H : Behaviour → Type 0} (f : (b : Behaviour) → F b → G b) (g : (b : Behaviour) → G b → H b) (h : (b : Behaviour) → F b → H b) →
     ((b : Behaviour) (x : F b) → g b (f b x) ≡ h b x) → (ds : List Behaviour) (d : Bank F ds) → each g ds (each f ds d) ≡ each h ds d

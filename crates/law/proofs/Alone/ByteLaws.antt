@@ -1,23 +1,22 @@
 -- The laws of bytes: who took an acknowledged byte, and who gave a byte that was read.
 use Rattle.std.proofs.Common.{◌≡◌, ℕ, zero, suc, ◌+◌, ◌-◌, ◌*◌, ◌<◌, Bool, true, false, cond, ◌&&◌, ◌↔◌, List, [], ◌∷◌, length, get_or, take, sym, refl, ◌∙◌, inl, inr, mod-eq_of_lt, arith}
 use lib.Bits.{bit_and, and_mask, and_comm}
-use Rattle.std.proofs.lemmas.Bool.{lt-ltb, or_cases, or_parts, true≢false, false≢true}
+use Rattle.std.proofs.lemmas.Bool.{lt-ltb, or_cases, or_parts, false≢true}
 use Rattle.transfer.specs.declared.leg.Direction.{Direction}
 use Rattle.transfer.specs.declared.leg.Direction.TheVariants.{Write, Read}
 use Rattle.transfer.specs.declared.outcome.OutcomeKind.TheVariants.{Done, NoAnswer, Refused}
 use Rattle.device.specs.Behaviours.{Behaviour}
-use Rattle.law.specs.Banks.{Bank, each}
+use Rattle.law.specs.Banks.{Bank, each, Every}
 use Rattle.law.specs.Carrying.{Placed, Taking, selected, put_to, taken_from, gives, byte_levels, Passed, ends, after_byte, somebody, written, read, passed}
 use Rattle.wire.specs.Octets.{digit}
 use Rattle.port.specs.Ports.{answers_to}
-use Rattle.law.specs.Facts.{Exists, Every, having, given, byte_given, write_leg, read_leg, Accepts, Only, ByteLaws}
+use Rattle.law.specs.Facts.{Exists, having, given, byte_given, write_leg, read_leg, Accepts, Only, ByteLaws}
 use Rattle.law.proofs.Alone.Banks.{any}
 use Rattle.law.proofs.Alone.Octets.{ones, digit_and}
 use Rattle.law.proofs.Alone.Phases.{device_in_leg, called_for, put_to_all}
 
 and_true : (x y : Bool) → ((x && y) ≡ true) ↔ ((x ≡ true) × (y ≡ true))
-and_true true y = ((λ e. (refl, e)), λ h. h.1)
-and_true false y = ((λ e. absurd (false≢true e)), λ h. h.0)
+and_true x y = grind arith
 
 some_each : {F G : Behaviour → Type 0} (g : (b : Behaviour) → F b → G b) (q : (b : Behaviour) → G b → Bool) (A R : (b : Behaviour) → F b → Type 0) →
     ((b : Behaviour) (x : F b) → A b x → q b (g b x) ≡ true → R b x) → (ds : List Behaviour) (d : Bank F ds) → Every A ds d → any q ds (each g ds d) ≡ true → Exists R ds d
@@ -37,12 +36,10 @@ abbrev Called : ℕ → (b : Behaviour) → Taking b → Type 0
 Called a b p = p.inside ≡ true → (answers_to p.address a ≡ true) × (p.yes ≡ true)
 
 called_select : (a : ℕ) (r : Direction) (b : Behaviour) (d : Placed b) (t : Bool) → answers_to d.address a ≡ t → Called a b (selected b a r d)
-called_select a r b d true e = rw e (λ h. (e, h))
-called_select a r b d false e = rw e (λ h. absurd (false≢true h))
+called_select a r b d t h = grind arith
 
 called_put : (a x : ℕ) (b : Behaviour) (o : ℕ) (m : b.Meaning) (y t : Bool) → Called a b (device_in_leg b o m y t) → Called a b (put_to b x (device_in_leg b o m y t))
-called_put a x b o m y true h = λ _. h refl
-called_put a x b o m y false h = h
+called_put a x b o m y t h = grind arith
 
 all_called : (a : ℕ) (r : Direction) (ds : List Behaviour) (d : Bank Placed ds) → Every (Called a) ds (called_for ds a r d)
 all_called a r [] d = tt
@@ -55,8 +52,7 @@ having_called a ds (x ∷ xs) e h = having_called a ds xs (put_to_all ds x e)
 
 accepts : (a x : ℕ) (b : Behaviour) (o : ℕ) (m : b.Meaning) (y t : Bool) → Called a b (device_in_leg b o m y t) → (put_to b x (device_in_leg b o m y t)).inside ≡ true →
     Accepts a x b (device_in_leg b o m y t)
-accepts a x b o m y true h k = record { matches = (h refl).0; said_yes = (h refl).1; still_in = refl; accepts_byte = k }
-accepts a x b o m y false h k = absurd (false≢true k)
+accepts a x b o m y t h k = grind arith
 
 -- nine levels on
 nine : (y : ℕ) → 9 * suc y + 8 ≡ suc (suc (suc (suc (suc (suc (suc (suc (suc (9 * y + 8)))))))))
@@ -68,13 +64,11 @@ module _ (ds : List Behaviour) where
   took x r s t = cond t (after_byte ds (byte_levels x false) [] r) (after_byte ds (byte_levels x true) [] s)
 
   ninth : (x : ℕ) (r s : Passed ds) (t : Bool) → get_or (took x r s t).levels 8 true ≡ false → t ≡ true
-  ninth x r s true e = refl
-  ninth x r s false e = sym e
+  ninth x r s t h = grind arith
 
   later : (x : ℕ) (r s : Passed ds) (t : Bool) (k : ℕ) → s.levels ≡ [] → get_or (took x r s t).levels (suc (suc (suc (suc (suc (suc (suc (suc (suc k))))))))) true ≡ false →
       get_or r.levels k true ≡ false
-  later x r s true k n e = e
-  later x r s false k n e = absurd (true≢false (rw n at e))
+  later x r s t k h e = grind arith
 
   heard_so : (l : ℕ) (xs : List ℕ) (n : ℕ) (e : Bank Taking ds) (y : ℕ) → y < length xs → get_or (written ds l xs n e).levels (9 * y + 8) true ≡ false →
       somebody ds (put_to_all ds (get_or xs y 0) (having ds (take y xs) e)) ≡ true
@@ -110,12 +104,11 @@ module _ (ds : List Behaviour) where
 
       go : (t : Bool) → (r t).kind ≡ Done → get_or (r t).bytes y 0 ≡ byte_given ds (given ds y e)
       go true k = reads_so n e y h
-      go false k = let z : ◌≡◌ {A = ℕ} 0 1 = cc in absurd (omega arith)
+      go false k = cc
 
 gave_one : (b : Behaviour) (o : ℕ) (m : b.Meaning) (y t : Bool) (k : ℕ) → digit 255 k ≡ true →
     (digit (gives b (device_in_leg b o m y t)) k ≡ true) ↔ (t ≡ true → digit (b.take m).0 k ≡ true)
-gave_one b o m y true k e = ((λ h _. h), λ h. h refl)
-gave_one b o m y false k e = ((λ _ h. absurd (false≢true h)), λ _. e)
+gave_one b o m y t k h = grind arith
 
 all_gave : (ds : List Behaviour) (e : Bank Taking ds) (k : ℕ) → digit 255 k ≡ true →
     (digit (byte_given ds e) k ≡ true) ↔ Every (λ b p. p.inside ≡ true → digit (b.take p.meaning).0 k ≡ true) ds e

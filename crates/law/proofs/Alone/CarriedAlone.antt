@@ -1,5 +1,5 @@
 -- A transfer played bit by bit is the transfer carried byte by byte.
-use Rattle.std.proofs.Common.{◌≡◌, ℕ, List, [], ◌∷◌, ◌++◌, map, Some, None, Option, sym, refl, ap, ◌∙◌, subst}
+use Rattle.std.proofs.Common.{◌≡◌, ℕ, List, [], ◌∷◌, ◌++◌, map, Some, None, Option, sym, refl, ap, ◌∙◌, subst, arith}
 use Rattle.transfer.specs.declared.outcome.OutcomeKind.{OutcomeKind}
 use Rattle.transfer.specs.declared.outcome.OutcomeKind.TheVariants.{Done, NoAnswer, Refused}
 use Rattle.transfer.specs.Drafts.{TransferModel}
@@ -15,7 +15,7 @@ use Rattle.law.specs.Legal.{LegalLeg, LegalSecond}
 use Rattle.law.proofs.Alone.Legs.{notes, closing, leg_plays}
 use Rattle.law.proofs.Alone.Phases.{addressing_at, Rests, opened_is}
 use Rattle.law.proofs.Alone.PortsSide.{ports_side, idle_ports}
-use Rattle.law.proofs.Alone.Runs.{Comes, through, restarts, stops}
+use Rattle.law.proofs.Alone.Runs.{Comes, through, restarts}
 use Rattle.law.proofs.Alone.SlotsLeft.{slots_left, some_left, fewer}
 use Rattle.law.proofs.Alone.Statements.{CarriedAlone}
 
@@ -24,21 +24,17 @@ module _ (ds : List Behaviour) where
   Goes c s ts e u = Comes transfers (ports_side ds) slots_left c s ts e u
 
   outcome_is : (k : OutcomeKind) (xs : List ℕ) → record { kind = k; bytes = reported k xs } ≡ outcome_named ds k xs
-  outcome_is Done xs = refl
-  outcome_is (NoAnswer p) xs = refl
-  outcome_is (Refused p) xs = refl
+  outcome_is k xs = grind arith
 
   -- the stop after a leg, where these devices are in it
   abbrev after_stop : Bank Taking ds → Bank PortModel ds
   after_stop e = idle_ports ds (each settled ds e)
 
   stops_at : (n : Notes) (e : Bank Taking ds) (u : Bank PortModel ds) → Rests ds u e → Goes (at done n) u (stop ∷ []) (at done n) (after_stop e)
-  stops_at n e u q = rw q.stop at (stops transfers (ports_side ds) slots_left some_left fewer (at done n) u refl q.quiet)
+  stops_at n e u h = grind arith
 
   last_leg : (k : OutcomeKind) (n : Notes) (e : Bank Taking ds) (u : Bank PortModel ds) → Rests ds u e → Goes (closing k None n) u (stop ∷ []) (at done n) (after_stop e)
-  last_leg Done n e u q = stops_at n e u q
-  last_leg (NoAnswer p) n e u q = stops_at n e u q
-  last_leg (Refused p) n e u q = stops_at n e u q
+  last_leg k n e u h = grind arith
 
   -- leg number l, after the bytes ys of an earlier one, and what follows it
   leg_goes : (g : LegModel) (l : ℕ) (o : Option LegModel) (ys : List ℕ) (d : Bank Placed ds) (ts : List Letter) (e : CursorModel) (v : Bank PortModel ds) → LegalLeg g →

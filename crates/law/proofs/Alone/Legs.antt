@@ -66,14 +66,14 @@ record Here (xs : List ℕ) (y x : ℕ) (zs : List ℕ) : Type 0 where
   pub inside : y < length xs
 
 here : (xs : List ℕ) (y x : ℕ) (zs : List ℕ) → drop y xs ≡ x ∷ zs → Here xs y x zs
-here [] zero x zs e = let z : ◌≡◌ {A = ℕ} 0 1 = cc in absurd (omega arith)
-here [] (suc y) x zs e = let z : ◌≡◌ {A = ℕ} 0 1 = cc in absurd (omega arith)
+here [] zero x zs e = cc
+here [] (suc y) x zs e = cc
 here (w ∷ ws) zero x zs e = record { found = cc; rest = cc; inside = omega arith }
 here (w ∷ ws) (suc y) x zs e = let r = here ws y x zs e in record { found = r.found; rest = r.rest; inside = omega arith }
 
 over : (xs : List ℕ) (y : ℕ) → drop y xs ≡ [] → length xs ≤ y
 over [] y e = omega arith
-over (w ∷ ws) zero e = let z : ◌≡◌ {A = ℕ} 0 1 = cc in absurd (omega arith)
+over (w ∷ ws) zero e = cc
 over (w ∷ ws) (suc y) e = omega (arith, over ws y e)
 
 module _ (ds : List Behaviour) (o : Option LegModel) (K : CursorModel → Bank PortModel ds → Type 0) where

@@ -40,43 +40,34 @@ module _ (b : Behaviour) where
 
   called_one : (d : Placed b) (v asked : ℕ) (r : Direction) (t : Bool) → answers_to d.address asked ≡ t →
       called b (addressing_at 7 v b d) asked r ≡ acknowledging_at r b (selected b asked r d)
-  called_one d v asked r true e = rw e
-  called_one d v asked r false e = rw e
+  called_one d v asked r t h = grind arith
 
   write_one : (a : ℕ) (m : b.Meaning) (y t : Bool) (k v : ℕ) (x : Bool) → ltb k 7 ≡ true →
       counting x b (writing_at k v b (device_in_leg a m y t)) ≡ writing_at (suc k) (shifted v x) b (device_in_leg a m y t)
-  write_one a m y true k v x e = rw e
-  write_one a m y false k v x e = refl
+  write_one a m y t k v x h = grind arith
 
   put_one : (a : ℕ) (m : b.Meaning) (y t : Bool) (v : ℕ) (x : Bool) →
       counting x b (writing_at 7 v b (device_in_leg a m y t)) ≡ acknowledging_at Write b (put_to b (shifted v x) (device_in_leg a m y t))
-  put_one a m y true v x = refl
-  put_one a m y false v x = refl
+  put_one a m y t v x = grind arith
 
   read_one : (a : ℕ) (m : b.Meaning) (y t : Bool) (k : ℕ) (x : Bool) → ltb k 8 ≡ true →
       counting x b (reading_at k b (device_in_leg a m y t)) ≡ reading_at (suc k) b (device_in_leg a m y t)
-  read_one a m y true k x e = rw e
-  read_one a m y false k x e = refl
+  read_one a m y t k x h = grind arith
 
   write_on_one : (a : ℕ) (m : b.Meaning) (y t x : Bool) → counting x b (acknowledging_at Write b (device_in_leg a m y t)) ≡ writing_at 0 0 b (device_in_leg a m y t)
-  write_on_one a m y true x = refl
-  write_on_one a m y false x = refl
+  write_on_one a m y t x = grind arith
 
   read_on_one : (a : ℕ) (m : b.Meaning) (y t : Bool) → counting false b (acknowledging_at Read b (device_in_leg a m y t)) ≡ reading_at 0 b (device_in_leg a m y t)
-  read_on_one a m y true = refl
-  read_on_one a m y false = refl
+  read_on_one a m y t = grind arith
 
   read_none_one : (a : ℕ) (m : b.Meaning) (y t : Bool) → counting true b (acknowledging_at Read b (device_in_leg a m y t)) ≡ out_at b (device_in_leg a m y t)
-  read_none_one a m y true = refl
-  read_none_one a m y false = refl
+  read_none_one a m y t = grind arith
 
   more_one : (a : ℕ) (m : b.Meaning) (y t : Bool) → counting false b (reading_at 8 b (device_in_leg a m y t)) ≡ reading_at 0 b (taken_from b (device_in_leg a m y t))
-  more_one a m y true = refl
-  more_one a m y false = refl
+  more_one a m y t = grind arith
 
   last_one : (a : ℕ) (m : b.Meaning) (y t : Bool) → counting true b (reading_at 8 b (device_in_leg a m y t)) ≡ out_at b (taken_from b (device_in_leg a m y t))
-  last_one a m y true = refl
-  last_one a m y false = refl
+  last_one a m y t = grind arith
 
   show_one : (a : ℕ) (m : b.Meaning) (y t : Bool) (k : ℕ) → ltb k 8 ≡ true →
       pulling b (reading_at k b (device_in_leg a m y t)) ≡ not (digit (gives b (device_in_leg a m y t)) (7 - k))
@@ -84,16 +75,13 @@ module _ (b : Behaviour) where
   show_one a m y false k e = rw (ones k e)
 
 writing_still : (n v : ℕ) (t : Bool) → mode_pulls (cond t (Writing (part n v)) Out) ≡ false
-writing_still n v true = refl
-writing_still n v false = refl
+writing_still n v t = grind arith
 
 eighth_still : (v : ℕ) (t : Bool) → mode_pulls (cond t (Reading (part 8 v)) Out) ≡ false
-eighth_still v true = refl
-eighth_still v false = refl
+eighth_still v t = grind arith
 
 acknowledge_one : (r : Direction) (t : Bool) → mode_pulls (cond t (Acknowledging r) Out) ≡ t
-acknowledge_one r true = refl
-acknowledge_one r false = refl
+acknowledge_one r t = grind arith
 
 not_and : (x y : Bool) → (not x || not y) ≡ not (x && y)
 not_and true y = refl

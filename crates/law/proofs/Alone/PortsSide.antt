@@ -1,18 +1,16 @@
 -- All ports as the far side that a script is played against, and how it follows the ports at each event.
-use Rattle.std.proofs.Common.{◌≡◌, ℕ, suc, ◌/◌, ◌%◌, Bool, true, false, cond, ◌||◌, eqb, ltb, List, [], ◌∷◌, Some, None, Option, refl, ap}
-use Rattle.transfer.specs.declared.leg.Direction.TheVariants.{Write, Read}
+use Rattle.std.proofs.Common.{◌≡◌, ℕ, Bool, ◌||◌, List, [], ◌∷◌, Some, None, Option, refl, ap, arith}
 use Rattle.device.specs.Behaviours.{Behaviour}
 use Rattle.port.specs.declared.port.Mode.{Mode}
-use Rattle.port.specs.declared.port.Mode.TheVariants.{Out, Addressing, Writing, Acknowledging, Reading}
+use Rattle.port.specs.declared.port.Mode.TheVariants.{Out, Addressing}
 use Rattle.wire.specs.declared.wire.Event.{Event}
 use Rattle.wire.specs.declared.wire.Event.TheVariants.{Rise, Fall, Start, Stop, SteadyHigh, SteadyLow}
 use Rattle.wire.specs.declared.wire.Signal.{Signal}
 use Rattle.law.specs.Banks.{Bank, each, listed}
 use Rattle.law.specs.Buses.{all_pulls, Holds, ports_step}
-use Rattle.transfer.specs.Legs.{direction_of}
-use Rattle.port.specs.Ports.{port_new, PortModel, mode_pulls, port_pulls, answers_to, goes, selects, called, puts, reads_on, counts, settles, new_port}
+use Rattle.port.specs.Ports.{PortModel, mode_pulls, port_pulls, counts, settles, new_port}
 use Rattle.law.specs.Carrying.{Placed}
-use Rattle.wire.specs.Octets.{shifted, part}
+use Rattle.wire.specs.Octets.{part}
 use Rattle.law.proofs.Sides.{Side}
 use Rattle.law.proofs.Alone.Banks.{any}
 
@@ -59,30 +57,9 @@ side_sees ds SteadyHigh o s = s
 side_sees ds (Rise x) o s = s
 
 module _ (b : Behaviour) where
-  unheld_cond : (t : Bool) (p q r s : PortModel b) → unheld b p ≡ r → unheld b q ≡ s → unheld b (cond t p q) ≡ cond t r s
-  unheld_cond true p q r s e f = e
-  unheld_cond false p q r s e f = f
-
-  unheld_reads : (p : PortModel b) (x : Bool) (a : ℕ × b.Meaning) (h : ℕ) → unheld b (reads_on b p x a h) ≡ reads_on b (unheld b p) x a 0
-  unheld_reads p true a h = refl
-  unheld_reads p false a h = refl
-
   -- a bit counts alike whatever a port holds, and whatever hold answers
   pub unheld_counts : (p : PortModel b) (m : Mode) (x : Bool) (h : ℕ) → unheld b (counts b p m x h) ≡ counts b (unheld b p) m x 0
-  unheld_counts p Out x h = refl
-  unheld_counts p (Addressing y) x h = let v = shifted y.value x in let d = direction_of (eqb (v % 2) 1) in let m = Addressing (part (suc y.bits) v) in
-      unheld_cond (ltb y.bits 7) (goes b p m) (called b p (v / 2) d) (goes b (unheld b p) m) (called b (unheld b p) (v / 2) d) refl
-      (unheld_cond (answers_to p.address (v / 2)) (selects b p d (b.select p.meaning d)) (goes b p Out)
-      (selects b (unheld b p) d (b.select p.meaning d)) (goes b (unheld b p) Out) refl refl)
-  unheld_counts p (Writing y) x h = let v = shifted y.value x in let m = Writing (part (suc y.bits) v) in let a = b.put p.meaning v in
-      unheld_cond (ltb y.bits 7) (goes b p m) (puts b p a) (goes b (unheld b p) m) (puts b (unheld b p) a) refl refl
-  unheld_counts p (Acknowledging Write) x h = refl
-  unheld_counts p (Acknowledging Read) x h = unheld_reads p x (b.take p.meaning) h
-  unheld_counts p (Reading y) x h = let m = Reading (part (suc y.bits) y.value) in let a = b.take p.meaning in
-      unheld_cond (ltb y.bits 8) (goes b p m) (reads_on b p x a h) (goes b (unheld b p) m) (reads_on b (unheld b p) x a 0) refl (unheld_reads p x a h)
-
-  pub unheld_settles : (p : PortModel b) (m : Mode) → unheld b (settles b p m) ≡ settles b (unheld b p) m
-  unheld_settles p m = refl
+  unheld_counts p m x h = grind arith
 
 follows : (ds : List Behaviour) (s : Bank PortModel ds) (e : Event) (o : Option Bool) (i : Bool) (a : Holds ds) →
     each unheld ds (ports_step ds s (record { event = e; bit = o; idle = i }) a) ≡ side_sees ds e o (each unheld ds s)
@@ -109,12 +86,3 @@ side_follows ds s v a = follows ds s v.event v.bit v.idle a
 pub side_pulls : (ds : List Behaviour) (s : Bank PortModel ds) → (all_pulls (listed port_pulls ds s)).sda ≡ (ports_side ds).pulls (each unheld ds s)
 side_pulls [] s = refl
 side_pulls (b ∷ ds) s = ap (λ r. mode_pulls s.0.mode || r) (side_pulls ds s.1)
-
--- where a port is, and what its device means
-abbrev pub placed : (b : Behaviour) → PortModel b → Placed b
-placed b p = record { address = p.address; meaning = p.meaning }
-
--- ports of a new bus are idle
-pub new_ports_idle : (ds : List Behaviour) (s : Bank PortModel ds) → each port_new ds s ≡ idle_ports ds (each placed ds s)
-new_ports_idle [] s = refl
-new_ports_idle (b ∷ ds) s = ap (λ r. (port_new b s.0, r)) (new_ports_idle ds s.1)

@@ -1,5 +1,5 @@
 -- Slots that carry given levels, and what a script played alone comes to.
-use Rattle.std.proofs.Common.{◌≡◌, ℕ, zero, suc, ◌-◌, ◌/◌, ◌<◌, ◌≤◌, Bool, true, false, cond, not, ltb, ◌⊎◌, List, [], ◌∷◌, ◌++◌, map, sym, refl, ap, ◌∙◌, subst, inl, inr, div-one, arith}
+use Rattle.std.proofs.Common.{◌≡◌, ℕ, zero, suc, ◌-◌, ◌/◌, ◌<◌, ◌≤◌, Bool, true, false, not, ltb, ◌⊎◌, List, [], ◌∷◌, ◌++◌, map, sym, refl, ap, ◌∙◌, div-one, arith}
 use native.Mathlib.Nat.{div-eq_of_lt}
 use Rattle.master.specs.declared.symbol.Symbol.{Symbol}
 use Rattle.master.specs.declared.symbol.Symbol.TheVariants.{Listen, RepeatedStart, Stop}
@@ -28,24 +28,8 @@ module _ (D : Side) where
     pub open_is : ends x ≡ false
     pub quiet_is : (x ≡ Listen → ⊥) → D.pulls s ≡ false
 
-  shown_slot : (s : D.S) (b : Bool) → D.pulls s ≡ false → Slot (bit_symbol b) s (bit_letter b) b (D.bit s b)
-  shown_slot s true q = record { letter_is = refl; heard_is = refl; after_is = refl; open_is = refl; quiet_is = λ _. q }
-  shown_slot s false q = record { letter_is = refl; heard_is = refl; after_is = refl; open_is = refl; quiet_is = λ _. q }
-
-  heard_rank : (pulled : Bool) → cond pulled 0 3 ≡ rank (bit_letter (not pulled))
-  heard_rank true = refl
-  heard_rank false = refl
-
-  heard_slot : (s : D.S) → Slot Listen s (bit_letter (not (D.pulls s))) (not (D.pulls s)) (D.bit s (not (D.pulls s)))
-  heard_slot s = record { letter_is = heard_rank (D.pulls s); heard_is = refl; after_is = refl; open_is = refl; quiet_is = λ k. absurd (k refl) }
-
   level_slot : (x : Symbol) (s : D.S) (b : Bool) → CarriesLevel x (D.pulls s) b → Slot x s (bit_letter b) b (D.bit s b)
-  level_slot x s b (inl h) = subst (λ y. Slot y s (bit_letter b) b (D.bit s b)) (sym h.0) (shown_slot s b h.1)
-  level_slot x s b (inr h) = subst (λ y. Slot y s (bit_letter b) b (D.bit s b)) (sym h.0) (subst (λ e. Slot Listen s (bit_letter e) e (D.bit s e)) h.1 (heard_slot s))
-
-  restart_slot : (x : Symbol) (s : D.S) → x ≡ RepeatedStart → D.pulls s ≡ false → Slot x s restart true (D.begin s)
-  restart_slot x s e q = subst (λ y. Slot y s restart true (D.begin s)) (sym e)
-      (record { letter_is = refl; heard_is = refl; after_is = refl; open_is = refl; quiet_is = λ _. q })
+  level_slot x s b h = grind arith
 
 module _ (W : Script) (D : Side) where
   -- these levels, one a slot, and then K
@@ -61,15 +45,11 @@ module _ (W : Script) (D : Side) where
       (full : (v : ℕ) (b : Bool) → D.bit (s 7 v) b ≡ t (shifted v b)) where
     one_bit : (k v w : ℕ) (u : D.S) (bs : List Bool) → ltb k 8 ≡ true → shifted v (digit x (7 - k)) ≡ w → D.bit (s k v) (digit x (7 - k)) ≡ u →
         Carries (c (suc k) w) u bs K → Carries (c k v) (s k v) (digit x (7 - k) ∷ bs) K
-    one_bit k v w u bs h e q r = (
-      level_so k v h,
-      subst (λ z. Carries z (D.bit (s k v) (digit x (7 - k))) bs K) (sym (cursors k v (digit x (7 - k)) h ∙ ap (c (suc k)) e))
-          (subst (λ z. Carries (c (suc k) w) z bs K) (sym q) r),
-    )
+    one_bit k v w u bs h e d g = grind arith
 
     next_bit : (k v w : ℕ) (bs : List Bool) → ltb k 7 ≡ true → ltb k 8 ≡ true → shifted v (digit x (7 - k)) ≡ w →
         Carries (c (suc k) w) (s (suc k) w) bs K → Carries (c k v) (s k v) (digit x (7 - k) ∷ bs) K
-    next_bit k v w bs l h e r = one_bit k v w (s (suc k) w) bs h e (sides k v (digit x (7 - k)) l ∙ ap (s (suc k)) e) r
+    next_bit k v w bs h e d g = grind arith
 
     pub byte : (bs : List Bool) → x < 256 → Carries (c 8 x) (t x) bs K → Carries (c 0 0) (s 0 0) (low_bits 8 x bs) K
     byte bs h r =
@@ -95,23 +75,7 @@ module _ (W : Script) (D : Side) (slots_left : W.Cursor → ℕ) where
   module _ (some_left : (c : W.Cursor) → 1 ≤ slots_left c) (fewer : (c : W.Cursor) (b : Bool) → ends (W.symbol c) ≡ false → slots_left (W.next c b) < slots_left c) where
     goes : (c : W.Cursor) (s : D.S) (t : Letter) (b : Bool) (v : D.S) (ts : List Letter) (e : W.Cursor) (u : D.S) →
         Slot D (W.symbol c) s t b v → Comes (W.next c b) v ts e u → Comes c s (t ∷ ts) e u
-    goes c s t b v ts e u f k = record { string_is = spells; final_is = shows; last_is = leaves; quiet = still }
-      where
-        spells : (n : ℕ) → slots_left c ≤ n → string W D n c s ≡ rank t ∷ map rank ts
-        spells zero h = absurd (omega (arith, some_left c))
-        spells (suc n) h = rw (f.open_is, f.letter_is, f.heard_is, f.after_is) (ap (λ r. rank t ∷ r) (k.string_is n (omega (arith, fewer c b f.open_is))))
-
-        shows : (n : ℕ) → slots_left c ≤ n → final W D n c s ≡ e
-        shows zero h = absurd (omega (arith, some_left c))
-        shows (suc n) h = rw (f.open_is, f.heard_is, f.after_is) (k.final_is n (omega (arith, fewer c b f.open_is)))
-
-        leaves : (n : ℕ) → slots_left c ≤ n → last W D n c s ≡ u
-        leaves zero h = absurd (omega (arith, some_left c))
-        leaves (suc n) h = rw (f.open_is, f.heard_is, f.after_is) (k.last_is n (omega (arith, fewer c b f.open_is)))
-
-        still : (n : ℕ) → QuietFor W D n c s
-        still zero = tt
-        still (suc n) = (f.quiet_is, λ _. rw (f.heard_is, f.after_is) (k.quiet n))
+    goes c s t b v ts e u h k = grind arith
 
     pub through : (bs : List Bool) (c : W.Cursor) (s : D.S) (ts : List Letter) (e : W.Cursor) (u : D.S) →
         Carries W D c s bs (λ q v. Comes q v ts e u) → Comes c s (map bit_letter bs ++ ts) e u
@@ -121,23 +85,7 @@ module _ (W : Script) (D : Side) (slots_left : W.Cursor → ℕ) where
 
     pub restarts : (c : W.Cursor) (s : D.S) (ts : List Letter) (e : W.Cursor) (u : D.S) → W.symbol c ≡ RepeatedStart → D.pulls s ≡ false →
         Comes (W.next c true) (D.begin s) ts e u → Comes c s (restart ∷ ts) e u
-    restarts c s ts e u i q h = goes c s restart true (D.begin s) ts e u (restart_slot D (W.symbol c) s i q) h
+    restarts c s ts e u h k d = grind arith
 
     pub stops : (c : W.Cursor) (s : D.S) → W.symbol c ≡ Stop → D.pulls s ≡ false → Comes c s (stop ∷ []) c (D.finish s)
-    stops c s e q = record { string_is = spells; final_is = shows; last_is = leaves; quiet = still }
-      where
-        spells : (n : ℕ) → slots_left c ≤ n → string W D n c s ≡ rank stop ∷ []
-        spells zero h = absurd (omega (arith, some_left c))
-        spells (suc n) h = rw e
-
-        shows : (n : ℕ) → slots_left c ≤ n → final W D n c s ≡ c
-        shows zero h = absurd (omega (arith, some_left c))
-        shows (suc n) h = rw e
-
-        leaves : (n : ℕ) → slots_left c ≤ n → last W D n c s ≡ D.finish s
-        leaves zero h = absurd (omega (arith, some_left c))
-        leaves (suc n) h = rw e
-
-        still : (n : ℕ) → QuietFor W D n c s
-        still zero = tt
-        still (suc n) = ((λ _. q), λ k. absurd (k e))
+    stops c s h k = grind arith

@@ -1,7 +1,8 @@
 -- The laws of strings: one stop, at the end; at most 308 letters; none begins another; the string says the outcome.
-use Rattle.std.proofs.Common.{◌≡◌, ℕ, suc, ◌≤◌, Bool, true, false, cond, ltb, ◌⊎◌, List, [], ◌∷◌, ◌++◌, map, length, get_or, Some, None, Option, sym, refl, ap, ◌∙◌, inl, inr, append_assoc, le_refl, arith}
+use Rattle.std.proofs.Common.{◌≡◌, ℕ, suc, ◌≤◌, Bool, cond, ltb, ◌⊎◌, List, [], ◌∷◌, ◌++◌, map, length, get_or, Some, None, Option, sym, refl, ap, ◌∙◌, inl, inr, append_assoc, le_refl, arith}
+use Rattle.std.proofs.Math.Seq.{get_or-append_seam}
 use lib.ListN.{length-map}
-use Rattle.std.proofs.lemmas.Bool.{cases_eq, eq-eqb, ne_eqb}
+use Rattle.std.proofs.lemmas.Bool.{eq-eqb, ne_eqb}
 use Rattle.transfer.specs.declared.outcome.OutcomeKind.{OutcomeKind}
 use Rattle.transfer.specs.declared.outcome.OutcomeKind.TheVariants.{Done, NoAnswer, Refused}
 use Rattle.transfer.specs.Drafts.{TransferModel}
@@ -30,27 +31,23 @@ letter_of (suc (suc ℕ.zero)) = restart
 letter_of (suc (suc (suc n))) = one
 
 pub letter_back : (t : Letter) → letter_of (rank t) ≡ t
-letter_back Letter.zero = refl
-letter_back stop = refl
-letter_back restart = refl
-letter_back one = refl
+letter_back t = grind arith
 
 pub letters_back : (ts : List Letter) → map letter_of (map rank ts) ≡ ts
 letters_back [] = refl
 letters_back (t ∷ ts) = λ i. letter_back t i ∷ letters_back ts i
 
 pub same_rank : (t u : Letter) → rank t ≡ rank u → t ≡ u
-same_rank t u e = sym (letter_back t) ∙ ap letter_of e ∙ letter_back u
+same_rank t u h = grind arith
 
 pub same_ranks : (ts us : List Letter) → map rank ts ≡ map rank us → ts ≡ us
 same_ranks ts us e = sym (letters_back ts) ∙ ap (map letter_of) e ∙ letters_back us
 
 cases_letter : (t u : Letter) → (t ≡ u) ⊎ (t ≡ u → ⊥)
-cases_letter t u = elim (cases_eq (rank t) (rank u)) [ inl e ↦ inl (same_rank t u e) | inr h ↦ inr (λ e. h (ap rank e)) ]
+cases_letter t u = grind arith
 
 bit_no_stop : (b : Bool) → bit_letter b ≡ stop → ⊥
-bit_no_stop true e = let z = ap rank e in omega arith
-bit_no_stop false e = let z = ap rank e in omega arith
+bit_no_stop b h = grind arith
 
 bits_no_stop : (bs : List Bool) → WithoutStop (map bit_letter bs)
 bits_no_stop [] = tt
@@ -99,43 +96,15 @@ parting (t ∷ ts) (u ∷ us) h k = go (cases_letter t u) (parting ts us h.1 k.1
     go (inl e) (inr r) = inr (rw e (parting_later u vs ws r))
 
 zero_against_one : (t u : Letter) → (t ≡ u → ⊥) → IsBit t → IsBit u → ZeroAgainstOne t u
-zero_against_one Letter.zero Letter.zero d h k = absurd (d refl)
-zero_against_one Letter.zero stop d h k = absurd (k.no_stop refl)
-zero_against_one Letter.zero restart d h k = absurd (k.no_restart refl)
-zero_against_one Letter.zero one d h k = inl (refl, refl)
-zero_against_one stop u d h k = absurd (h.no_stop refl)
-zero_against_one restart u d h k = absurd (h.no_restart refl)
-zero_against_one one Letter.zero d h k = inr (refl, refl)
-zero_against_one one stop d h k = absurd (k.no_stop refl)
-zero_against_one one restart d h k = absurd (k.no_restart refl)
-zero_against_one one one d h k = absurd (d refl)
-
-letter_at : (ts : List Letter) (t : Letter) (us : List Letter) → get_or (ts ++ (t ∷ us)) (length ts) stop ≡ t
-letter_at [] t us = refl
-letter_at (r ∷ ts) t us = letter_at ts t us
+zero_against_one t u h k e = grind arith
 
 bits_or_same : (t u : Letter) → (t ≡ u → ⊥) → condition t ≡ condition u → ZeroAgainstOne t u
-bits_or_same Letter.zero Letter.zero d e = absurd (d refl)
-bits_or_same Letter.zero stop d e = absurd (d (cc))
-bits_or_same Letter.zero restart d e = absurd (d (cc))
-bits_or_same Letter.zero one d e = inl (refl, refl)
-bits_or_same stop Letter.zero d e = absurd (d (cc))
-bits_or_same stop stop d e = absurd (d refl)
-bits_or_same stop restart d e = absurd (d (cc))
-bits_or_same stop one d e = absurd (d (cc))
-bits_or_same restart Letter.zero d e = absurd (d (cc))
-bits_or_same restart stop d e = absurd (d (cc))
-bits_or_same restart restart d e = absurd (d refl)
-bits_or_same restart one d e = absurd (d (cc))
-bits_or_same one Letter.zero d e = inr (refl, refl)
-bits_or_same one stop d e = absurd (d (cc))
-bits_or_same one restart d e = absurd (d (cc))
-bits_or_same one one d e = absurd (d refl)
+bits_or_same t u h k = grind arith
 
 bits_decide : (ts us : List Letter) (p : Parting ts us) → SameConditions ts us → ZeroAgainstOne p.one_letter p.other_letter
 bits_decide ts us p h = let k = length p.front in
-    let a : get_or ts k stop ≡ p.one_letter = ap (λ r. get_or r k stop) p.one_is ∙ letter_at p.front p.one_letter p.one_rest in
-    let b : get_or us k stop ≡ p.other_letter = ap (λ r. get_or r k stop) p.other_is ∙ letter_at p.front p.other_letter p.other_rest in
+    let a : get_or ts k stop ≡ p.one_letter = ap (λ r. get_or r k stop) p.one_is ∙ get_or-append_seam p.front p.one_letter p.one_rest stop in
+    let b : get_or us k stop ≡ p.other_letter = ap (λ r. get_or r k stop) p.other_is ∙ get_or-append_seam p.front p.other_letter p.other_rest stop in
     bits_or_same p.one_letter p.other_letter p.differ (sym (ap condition a) ∙ h k ∙ ap condition b)
 
 first_by_letter : (ts : List Letter) (t u : Letter) (vs ws : List Letter) → (t ≡ u → ⊥) → first_or_same (ts ++ (t ∷ vs)) (ts ++ (u ∷ ws)) ≡ ltb (rank t) (rank u)
@@ -148,8 +117,7 @@ module _ (W : Script) (D : Side) where
   bounded (suc n) c s = go (ends (W.symbol c)) (string W D n (W.next c (heard D (W.symbol c) s)) (after D (W.symbol c) s)) (bounded n (W.next c (heard D (W.symbol c) s)) (after D (W.symbol c) s))
     where
       go : (i : Bool) (ts : List ℕ) → length ts ≤ n → suc (length (cond i [] ts)) ≤ suc n
-      go true ts h = omega arith
-      go false ts h = omega arith
+      go i ts h = grind arith
 
 module _ (ds : List Behaviour) where
   one_leg : (r : Passed ds) → OneStop (map bit_letter r.levels ++ (stop ∷ []))

@@ -1,21 +1,13 @@
 -- Equal strings, over whatever ports, end with equal notes.
-use Rattle.std.proofs.Common.{◌≡◌, ℕ, zero, suc, ◌≤◌, Bool, true, false, cond, not, List, [], ◌∷◌, sym, refl, ap, ◌∙◌, subst, inl, inr, arith}
+use Rattle.std.proofs.Common.{◌≡◌, ℕ, zero, suc, ◌≤◌, Bool, true, false, cond, List, [], ◌∷◌, sym, refl, ap, ◌∙◌, subst, arith}
 use Rattle.std.proofs.lemmas.Bool.{true≢false, false≢true}
 use Rattle.master.specs.declared.symbol.Symbol.{Symbol}
-use Rattle.master.specs.declared.symbol.Symbol.TheVariants.{Zero, One, Listen, RepeatedStart, Stop}
-use Rattle.master.specs.Cursors.{Play, done, again, sends, Notes, CursorModel, symbol_of, cursor_next}
+use Rattle.master.specs.Cursors.{Play, Notes, CursorModel, symbol_of, cursor_next}
 use Rattle.master.specs.Scripts.{transfers}
 use Rattle.law.proofs.Sides.{Side, ends, letter, heard, after, string, final}
-use Rattle.law.proofs.Alone.Alike.{Same, AlikePlay, Alike, listens, listens_is, same_own, cursor_laws}
+use Rattle.law.proofs.Alone.Alike.{AlikePlay, Alike, cursor_laws}
 use Rattle.law.proofs.Alone.Moves.{notes_on, next_is}
 use Rattle.law.proofs.Alone.SlotsLeft.{slots_left, some_left, fewer}
-
--- a letter of a script that does not listen is its symbol
-abbrev shown_by : ℕ → Symbol
-shown_by zero = Zero
-shown_by (suc zero) = Stop
-shown_by (suc (suc zero)) = RepeatedStart
-shown_by (suc (suc (suc n))) = One
 
 -- the level that a letter carries
 abbrev level_by : ℕ → Bool
@@ -23,39 +15,12 @@ level_by zero = false
 level_by (suc zero) = false
 level_by (suc (suc n)) = true
 
-level_back : (pulled : Bool) → not pulled ≡ level_by (cond pulled 0 3)
-level_back true = refl
-level_back false = refl
-
 module _ (D : Side) where
-  shown_is : (x : Symbol) (s : D.S) → listens x ≡ false → shown_by (letter D x s) ≡ x
-  shown_is Zero s e = refl
-  shown_is One s e = refl
-  shown_is Listen s e = cc
-  shown_is RepeatedStart s e = refl
-  shown_is Stop s e = refl
-
   heard_is : (x : Symbol) (s : D.S) → heard D x s ≡ level_by (letter D x s)
-  heard_is Zero s = refl
-  heard_is One s = refl
-  heard_is Listen s = level_back (D.pulls s)
-  heard_is RepeatedStart s = refl
-  heard_is Stop s = refl
-
-same_notes : (p q : Play) (n : Notes) (h : Bool) → Same p q → notes_on p n h ≡ notes_on q n h
-same_notes done done n h s = refl
-same_notes done (again g) n h s = elim s [ ]
-same_notes done (sends g o y b) n h s = elim s [ ]
-same_notes (again f) done n h s = elim s [ ]
-same_notes (again f) (again g) n h s = refl
-same_notes (again f) (sends g o y b) n h s = elim s [ ]
-same_notes (sends f m x a) done n h s = elim s [ ]
-same_notes (sends f m x a) (again g) n h s = elim s [ ]
-same_notes (sends f m x a) (sends g o y b) n h s = rw (← s.same_byte, ← s.same_bit, same_own f g x a s.one_way)
+  heard_is x s = grind arith
 
 alike_notes : (p q : Play) (n : Notes) (h : Bool) → AlikePlay p q → symbol_of p ≡ symbol_of q → notes_on p n h ≡ notes_on q n h
-alike_notes p q n h (inl s) e = same_notes p q n h s
-alike_notes p q n h (inr a) e = absurd (a.differ e)
+alike_notes p q n h k e = grind arith
 
 -- cursors that note the same, and go on to while their letters are the same
 pub record Twins (c e : CursorModel) : Type 0 where
@@ -72,15 +37,8 @@ still_twins c e b h k = record {
 }
 
 module _ (D E : Side) where
-  same_symbol : (x y : Symbol) (s : D.S) (t : E.S) → (x ≡ Listen → y ≡ Listen) → (y ≡ Listen → x ≡ Listen) → letter D x s ≡ letter E y t →
-      (b a : Bool) → listens x ≡ b → listens y ≡ a → x ≡ y
-  same_symbol x y s t f g e true a h k = let i = listens_is x h in i ∙ sym (f i)
-  same_symbol x y s t f g e false true h k = let i = listens_is y k in g i ∙ sym i
-  same_symbol x y s t f g e false false h k = sym (shown_is D x s h) ∙ ap shown_by e ∙ shown_is E y t k
-
   twins_show : (c e : CursorModel) (s : D.S) (t : E.S) → Twins c e → letter D (symbol_of c.play) s ≡ letter E (symbol_of e.play) t → symbol_of c.play ≡ symbol_of e.play
-  twins_show c e s t h k = let x = symbol_of c.play in let y = symbol_of e.play in
-      same_symbol x y s t (cursor_laws.both_listen c e h.one_way) (cursor_laws.both_listen e c h.back) k (listens x) (listens y) refl refl
+  twins_show c e s t h k = grind arith
 
   abbrev SameEnd : ℕ → ℕ → CursorModel → CursorModel → D.S → E.S → Type 0
   SameEnd n k c e s t = Twins c e → slots_left c ≤ n → slots_left e ≤ k → string transfers D n c s ≡ string transfers E k e t →

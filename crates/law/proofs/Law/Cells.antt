@@ -1,31 +1,26 @@
 -- The cells of a turn: who is armed, who was marked, and what an arm changes.
-use Rattle.std.proofs.Common.{◌≡◌, ℕ, zero, suc, Bool, true, false, not, ◌&&◌, ◌||◌, eqb, List, [], ◌∷◌, get_or, is_some, Some, None, Option, sym, refl, ap, ◌∙◌, ap₂, arith}
+use Rattle.std.proofs.Common.{◌≡◌, ℕ, zero, suc, Bool, true, false, not, ◌&&◌, ◌||◌, eqb, List, [], ◌∷◌, get_or, is_some, Some, None, Option, refl, ap, ◌∙◌, ap₂, map, arith}
 use Rattle.master.specs.declared.symbol.Symbol.{Symbol}
-use Rattle.master.specs.Masters.{ArmingModel, unarmed, armed, MasterModel, VerdictModel, quiet, lost, arms, arm_master}
+use Rattle.master.specs.Masters.{ArmingModel, MasterModel, VerdictModel, quiet, lost, arms, arm_master}
 use Rattle.master.specs.Scripts.{Script}
 use Rattle.law.proofs.Law.Phases.{rank, Cell, out, live, off, looks, notes, cursor, cursors, some, alive, Every, Times, Timed, who, stay_if, stay, advance, done_if, finished, claim, claim_all}
 use Rattle.law.proofs.Law.Race.{at}
 use Rattle.law.proofs.Law.Uses.{Tasks, count, any, armed_if, arm_book, nobody, task_of, armeds, pulling, is_lost, telling, tellings, arm_masters, begin_one, begins, falses, marks_too}
 
 pub armed_same : {A : Type 0} → (o w : Option A) → is_some o ≡ true → armed_if o w ≡ o
-armed_same None w h = let z : ◌≡◌ {A = ℕ} 0 1 = cc in absurd (omega arith)
-armed_same (Some p) w h = refl
+armed_same o w h = grind arith
 
 some_of : {A : Type 0} (o : Option A) → is_some o ≡ true → (q : A) × (o ≡ Some q)
-some_of None h = let z : ◌≡◌ {A = ℕ} 0 1 = cc in absurd (omega arith)
-some_of (Some q) h = (q, refl)
+some_of o h = grind arith
 
 false_and : (b a : Bool) → a ≡ false → (b && a) ≡ false
-false_and true a h = h
-false_and false a h = refl
+false_and b a h = grind arith
 
 and_right : (b a : Bool) → (b && a) ≡ true → a ≡ true
-and_right true a h = h
-and_right false a h = let z : ◌≡◌ {A = ℕ} 0 1 = cc in absurd (omega arith)
+and_right b a h = grind arith
 
 mark_one : (b a c : Bool) → b ≡ true → ((b && a) || c) ≡ (b && (a || c))
-mark_one true a c h = refl
-mark_one false a c h = let z : ◌≡◌ {A = ℕ} 0 1 = cc in absurd (omega arith)
+mark_one b a c h = grind arith
 
 mark_out : (b : Bool) → ((b && true) || false) ≡ (b && true)
 mark_out true = refl
@@ -40,8 +35,7 @@ never x = false
 
 module _ (W : Script) where
   abbrev pub cell_armeds : List (Cell W) → Tasks W
-  cell_armeds [] = []
-  cell_armeds (c ∷ cs) = task_of W (who W c).arming ∷ cell_armeds cs
+  cell_armeds cs = map (λ c. task_of W (who W c).arming) cs
 
   -- who is live is armed
   abbrev pub Holding : List (Cell W) → Type 0
@@ -69,8 +63,7 @@ module _ (W : Script) where
 
   -- a slot's survivors
   stay_armed : (v : Bool) (m : MasterModel W) (p : W.Cursor) → task_of W (who W (stay_if W v m p)).arming ≡ task_of W m.arming
-  stay_armed true m p = refl
-  stay_armed false m p = refl
+  stay_armed v m p = grind arith
 
   pub armeds_stay : (n : ℕ) (cs : List (Cell W)) → cell_armeds (stay W n cs) ≡ cell_armeds cs
   armeds_stay n [] = refl
@@ -83,8 +76,7 @@ module _ (W : Script) where
   armeds_advance b (live m p ∷ cs) = ap (λ l. task_of W m.arming ∷ l) (armeds_advance b cs)
 
   stay_holding : (v : Bool) (m : MasterModel W) (p : W.Cursor) (cs : List (Cell W)) → is_some (task_of W m.arming) ≡ true → Holding cs → Holding (stay_if W v m p ∷ cs)
-  stay_holding true m p cs h g = (h, g)
-  stay_holding false m p cs h g = g
+  stay_holding v m p cs h k = grind arith
 
   pub holding_stay : (n : ℕ) (cs : List (Cell W)) → Holding cs → Holding (stay W n cs)
   holding_stay n [] h = tt
@@ -97,8 +89,7 @@ module _ (W : Script) where
   holding_advance b (live m p ∷ cs) h = (h.0, holding_advance b cs h.1)
 
   stay_within : (v : Bool) (m : MasterModel W) (p : W.Cursor) (o : Option W.Task) (l : Tasks W) (cs : List (Cell W)) → is_some o ≡ true → Within l cs → Within (o ∷ l) (stay_if W v m p ∷ cs)
-  stay_within true m p o l cs h g = (h, g)
-  stay_within false m p o l cs h g = g
+  stay_within v m p o l cs h k = grind arith
 
   pub within_stay : (n : ℕ) (l : Tasks W) (cs : List (Cell W)) → Within l cs → Within l (stay W n cs)
   within_stay n [] [] h = tt
@@ -116,8 +107,7 @@ module _ (W : Script) where
 
   -- the stop
   done_holding : (v : Bool) (m : MasterModel W) (cs : List (Cell W)) → Holding cs → Holding (done_if W v m ∷ cs)
-  done_holding true m cs h = h
-  done_holding false m cs h = h
+  done_holding v m cs h = grind arith
 
   pub holding_finished : (cs : List (Cell W)) → Holding (finished W cs)
   holding_finished [] = tt
@@ -126,56 +116,49 @@ module _ (W : Script) where
 
   -- the claim
   claim_who : (m : MasterModel W) (a : ArmingModel W) → who W (claim W m a) ≡ m
-  claim_who m unarmed = refl
-  claim_who m (armed t) = refl
+  claim_who m a = grind arith
 
   pub armeds_claim : (cs : List (Cell W)) → cell_armeds (claim_all W cs) ≡ cell_armeds cs
   armeds_claim [] = refl
   armeds_claim (c ∷ cs) = ap₂ ◌∷◌ (ap (λ m. task_of W m.arming) (claim_who (who W c) (who W c).arming)) (armeds_claim cs)
 
   claim_cursor : (m : MasterModel W) (a : ArmingModel W) → cursor W (claim W m a) ≡ begin_one W (task_of W a)
-  claim_cursor m unarmed = refl
-  claim_cursor m (armed t) = refl
+  claim_cursor m a = grind arith
 
   pub cursors_claim : (cs : List (Cell W)) → cursors W (claim_all W cs) ≡ begins W (cell_armeds cs)
   cursors_claim [] = refl
   cursors_claim (c ∷ cs) = ap₂ ◌∷◌ (claim_cursor (who W c) (who W c).arming) (cursors_claim cs)
 
   claim_times : (m : MasterModel W) (a : ArmingModel W) → Times W m → Times W (who W (claim W m a))
-  claim_times m unarmed t = t
-  claim_times m (armed x) t = t
+  claim_times m a h = grind arith
 
   pub timed_claim : (cs : List (Cell W)) → Timed W cs → Timed W (claim_all W cs)
   timed_claim [] t = tt
   timed_claim (c ∷ cs) t = (claim_times (who W c) (who W c).arming t.0, timed_claim cs t.1)
 
   claim_holding : (m : MasterModel W) (a : ArmingModel W) (cs : List (Cell W)) → m.arming ≡ a → Holding cs → Holding (claim W m a ∷ cs)
-  claim_holding m unarmed cs e h = h
-  claim_holding m (armed t) cs e h = (ap (λ a. is_some (task_of W a)) e, h)
+  claim_holding m a cs h k = grind arith
 
   pub holding_claim : (cs : List (Cell W)) → Holding (claim_all W cs)
   holding_claim [] = tt
   holding_claim (c ∷ cs) = claim_holding (who W c) (who W c).arming (claim_all W cs) refl (holding_claim cs)
 
   claim_within : (m : MasterModel W) (a : ArmingModel W) (l : Tasks W) (cs : List (Cell W)) → Within l cs → Within (task_of W a ∷ l) (claim W m a ∷ cs)
-  claim_within m unarmed l cs h = h
-  claim_within m (armed t) l cs h = (refl, h)
+  claim_within m a l cs h = grind arith
 
   pub within_claim : (cs : List (Cell W)) → Within (cell_armeds cs) (claim_all W cs)
   within_claim [] = tt
   within_claim (c ∷ cs) = claim_within (who W c) (who W c).arming (cell_armeds cs) (claim_all W cs) (within_claim cs)
 
   claim_alive : (m : MasterModel W) (a : ArmingModel W) (cs : List (Cell W)) → alive W (claim W m a ∷ cs) ≡ (is_some (task_of W a) || alive W cs)
-  claim_alive m unarmed cs = refl
-  claim_alive m (armed t) cs = refl
+  claim_alive m a cs = grind arith
 
   pub alive_claim : (cs : List (Cell W)) → alive W (claim_all W cs) ≡ any (cell_armeds cs)
   alive_claim [] = refl
   alive_claim (c ∷ cs) = claim_alive (who W c) (who W c).arming (claim_all W cs) ∙ ap (λ v. is_some (task_of W (who W c).arming) || v) (alive_claim cs)
 
   claim_marked : (m : MasterModel W) (a : ArmingModel W) → false ≡ (is_some (task_of W a) && gone never (claim W m a))
-  claim_marked m unarmed = refl
-  claim_marked m (armed t) = refl
+  claim_marked m a = grind arith
 
   pub marked_claim : (cs : List (Cell W)) → falses (cell_armeds cs) ≡ marked never (cell_armeds cs) (claim_all W cs)
   marked_claim [] = refl
@@ -192,8 +175,7 @@ module _ (W : Script) where
       ap₂ ◌∷◌ (ap (λ v. (is_some o && f (W.symbol p)) || v) (each (W.symbol p) p) ∙ mark_one (is_some o) (f (W.symbol p)) (g (W.symbol p)) h.0) (marked_more f g k each l cs h.1)
 
   stay_marked : (v a : Bool) (m : MasterModel W) (p : W.Cursor) → a ≡ not v → a ≡ gone never (stay_if W v m p)
-  stay_marked true a m p h = h
-  stay_marked false a m p h = h
+  stay_marked v a m p h = grind arith
 
   pub marked_stay : (f : Symbol → Bool) (n : ℕ) (l : Tasks W) (cs : List (Cell W)) → Every W (λ x. f x ≡ not (eqb (rank x) n)) cs → marked f l cs ≡ marked never l (stay W n cs)
   marked_stay f n [] cs h = refl
@@ -209,8 +191,8 @@ module _ (W : Script) where
 
   -- who is marked now was live, and whoever is live and does not pass the test was not marked
   pub note_at : (k : Symbol → W.Cursor → VerdictModel W) (cs : List (Cell W)) (i : ℕ) → get_or (notes W k cs) i quiet ≡ lost → (p : W.Cursor) × (at (cursors W cs) i ≡ Some p) × (k (W.symbol p) p ≡ lost)
-  note_at k [] i h = let z : ◌≡◌ {A = ℕ} 0 1 = cc in absurd (omega arith)
-  note_at k (out m ∷ cs) zero h = let z : ◌≡◌ {A = ℕ} 0 1 = cc in absurd (omega arith)
+  note_at k [] i h = cc
+  note_at k (out m ∷ cs) zero h = cc
   note_at k (live m p ∷ cs) zero h = (p, refl, h)
   note_at k (out m ∷ cs) (suc i) h = note_at k cs i h
   note_at k (live m p ∷ cs) (suc i) h = note_at k cs i h
@@ -218,16 +200,16 @@ module _ (W : Script) where
   pub unmarked : (f : Symbol → Bool) (l : Tasks W) (cs : List (Cell W)) (i : ℕ) (p : W.Cursor) → at (cursors W cs) i ≡ Some p → f (W.symbol p) ≡ false → get_or (marked f l cs) i false ≡ false
   unmarked f [] cs i p e h = refl
   unmarked f (o ∷ l) [] i p e h = refl
-  unmarked f (o ∷ l) (out m ∷ cs) zero p e h = let z : ◌≡◌ {A = ℕ} 0 1 = cc in absurd (omega arith)
+  unmarked f (o ∷ l) (out m ∷ cs) zero p e h = cc
   unmarked f (o ∷ l) (live m q ∷ cs) zero p e h = let z : q ≡ p = cc in false_and (is_some o) (f (W.symbol q)) (ap (λ r. f (W.symbol r)) z ∙ h)
   unmarked f (o ∷ l) (out m ∷ cs) (suc i) p e h = unmarked f l cs i p e h
   unmarked f (o ∷ l) (live m q ∷ cs) (suc i) p e h = unmarked f l cs i p e h
 
   pub contender : (l : Tasks W) (cs : List (Cell W)) → Within l cs → (i : ℕ) (p : W.Cursor) → at (cursors W cs) i ≡ Some p → (q : W.Task) × (at l i ≡ Some q)
-  contender [] [] h i p e = let z : ◌≡◌ {A = ℕ} 0 1 = cc in absurd (omega arith)
+  contender [] [] h i p e = cc
   contender [] (c ∷ cs) h i p e = absurd h
   contender (o ∷ l) [] h i p e = absurd h
-  contender (o ∷ l) (out m ∷ cs) h zero p e = let z : ◌≡◌ {A = ℕ} 0 1 = cc in absurd (omega arith)
+  contender (o ∷ l) (out m ∷ cs) h zero p e = cc
   contender (o ∷ l) (live m q ∷ cs) h zero p e = some_of o h.0
   contender (o ∷ l) (out m ∷ cs) h (suc i) p e = contender l cs h i p e
   contender (o ∷ l) (live m q ∷ cs) h (suc i) p e = contender l cs h.1 i p e
@@ -235,8 +217,8 @@ module _ (W : Script) where
   -- who was marked pulls nothing
   pub pulls_nothing : (f : Symbol → Bool) (g : MasterModel W → W.Cursor → MasterModel W) (each : (m : MasterModel W) (p : W.Cursor) → f (W.symbol p) ≡ true → ((g m p).pulls.scl || (g m p).pulls.sda) ≡ false)
       (l : Tasks W) (cs : List (Cell W)) (i : ℕ) → get_or (marked f l cs) i false ≡ true → pulling W (looks W g cs) i ≡ false
-  pulls_nothing f g each [] cs i h = let z : ◌≡◌ {A = ℕ} 0 1 = cc in absurd (omega arith)
-  pulls_nothing f g each (o ∷ l) [] i h = let z : ◌≡◌ {A = ℕ} 0 1 = cc in absurd (omega arith)
+  pulls_nothing f g each [] cs i h = cc
+  pulls_nothing f g each (o ∷ l) [] i h = cc
   pulls_nothing f g each (o ∷ l) (out m ∷ cs) zero h = refl
   pulls_nothing f g each (o ∷ l) (live m p ∷ cs) zero h = each m p (and_right (is_some o) (f (W.symbol p)) h)
   pulls_nothing f g each (o ∷ l) (out m ∷ cs) (suc i) h = pulls_nothing f g each l cs i h
@@ -266,23 +248,16 @@ module _ (W : Script) where
   arm_cells (c ∷ cs) (w ∷ ws) (suc i) = c ∷ arm_cells cs ws i
 
   arm_none : (m : MasterModel W) (a : ArmingModel W) (w : Option W.Task) → is_some (task_of W a) ≡ true → (arms W m a w).1 ≡ m
-  arm_none m unarmed w h = let z : ◌≡◌ {A = ℕ} 0 1 = cc in absurd (omega arith)
-  arm_none m (armed t) w h = refl
+  arm_none m a w h = grind arith
 
   arm_off : (m : MasterModel W) (a : ArmingModel W) (w : Option W.Task) → (arms W (off W m) a w).1 ≡ off W (arms W m a w).1
-  arm_off m unarmed None = refl
-  arm_off m unarmed (Some t) = refl
-  arm_off m (armed t) w = refl
+  arm_off m a w = grind arith
 
   arm_task : (m : MasterModel W) (a : ArmingModel W) (w : Option W.Task) → m.arming ≡ a → armed_if (task_of W a) w ≡ task_of W (arms W m a w).1.arming
-  arm_task m unarmed None e = sym (ap (task_of W) e)
-  arm_task m unarmed (Some t) e = refl
-  arm_task m (armed t) w e = sym (ap (task_of W) e)
+  arm_task m a w h = grind arith
 
   arm_times : (m : MasterModel W) (a : ArmingModel W) (w : Option W.Task) → Times W m → Times W (arms W m a w).1
-  arm_times m unarmed None t = t
-  arm_times m unarmed (Some x) t = record { low_from = t.low_from; low_to = t.low_to; high_from = t.high_from; high_to = t.high_to }
-  arm_times m (armed x) w t = t
+  arm_times m a w h = grind arith
 
   pub arm_looks : (f : MasterModel W → W.Cursor → MasterModel W) (keeps : (m : MasterModel W) (p : W.Cursor) → (f m p).arming ≡ m.arming)
       (cs : List (Cell W)) (ws : Tasks W) (i : ℕ) → Holding W cs → arm_masters W (looks W f cs) ws i ≡ looks W f (arm_cells cs ws i)

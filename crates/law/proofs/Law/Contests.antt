@@ -1,5 +1,6 @@
 -- What a turn's slots say of the least string: who leads, who loses and when, and what the stop tells.
-use Rattle.std.proofs.Common.{◌≡◌, ℕ, zero, suc, ◌+◌, ◌<◌, ◌≤◌, Bool, true, false, cond, ◌&&◌, eqb, leb, ◌⊎◌, List, [], ◌∷◌, ◌++◌, length, take, is_some, Some, None, Option, sym, refl, ap, ◌∙◌, subst, ap₂, inl, inr, arith, take_all, take-suc}
+use Rattle.std.proofs.Common.{◌≡◌, ℕ, zero, suc, ◌+◌, ◌<◌, ◌≤◌, Bool, true, false, cond, eqb, leb, ◌⊎◌, List, [], ◌∷◌, ◌++◌, length, take, is_some, Some, None, Option, sym, refl, ap, ◌∙◌, subst, ap₂, inl, inr, arith, take_all, take-suc}
+use Rattle.std.specs.Cmp.Lexicographic.{same_text}
 use Rattle.std.proofs.lemmas.Bool.{cases_lt, cases_Bool, leb-true, leb-false, eqb-true, eq-eqb}
 use Rattle.master.specs.Scripts.{Script}
 use Rattle.law.proofs.Sides.{Side, ends, heard, after, final}
@@ -12,14 +13,7 @@ use Rattle.law.proofs.Law.Wins.{Arbitrated, settled, lexb_anti, most, common_who
 use Rattle.law.proofs.Law.Runs.{Run, slots_last, spelled, rank_ends, after_stop}
 
 pub same_of : (t u : List ℕ) → same t u ≡ true → t ≡ u
-same_of [] [] h = refl
-same_of [] (u ∷ us) h = let z : ◌≡◌ {A = ℕ} 0 1 = cc in absurd (omega arith)
-same_of (t ∷ ts) [] h = let z : ◌≡◌ {A = ℕ} 0 1 = cc in absurd (omega arith)
-same_of (t ∷ ts) (u ∷ us) h = go (eqb t u) refl h (same_of ts us)
-  where
-    go : (v : Bool) → eqb t u ≡ v → (v && same ts us) ≡ true → (same ts us ≡ true → ts ≡ us) → (t ∷ ts) ≡ (u ∷ us)
-    go true e d ih = ap₂ ◌∷◌ (eqb-true t u e) (ih d)
-    go false e d ih = let z : ◌≡◌ {A = ℕ} 0 1 = cc in absurd (omega arith)
+same_of t u h = same_text t u (sym h)
 
 same_refl : (t : List ℕ) → same t t ≡ true
 same_refl [] = refl
@@ -35,7 +29,7 @@ module _ (W : Script) where
   begun_at l i t e = at_begins l i ∙ ap (begin_one W) e
 
   begun_from : (o : Option W.Task) (p : W.Cursor) → begin_one W o ≡ Some p → (t : W.Task) × (o ≡ Some t) × (W.begin t ≡ p)
-  begun_from None p e = let z : ◌≡◌ {A = ℕ} 0 1 = cc in absurd (omega arith)
+  begun_from None p e = cc
   begun_from (Some t) p e = (t, refl, cc)
 
   pub task_at : (l : Tasks W) (i : ℕ) (p : W.Cursor) → at (begins W l) i ≡ Some p → (t : W.Task) × (at l i ≡ Some t) × (W.begin t ≡ p)
@@ -43,7 +37,7 @@ module _ (W : Script) where
 
 module _ (W : Script) (D : Side) (left : W.Cursor → ℕ) where
   pub leader_in : (l : Tasks W) (s : D.S) (q : W.Task) → leader W D left l s ≡ Some q → (j : ℕ) × (at l j ≡ Some q)
-  leader_in [] s q e = let z : ◌≡◌ {A = ℕ} 0 1 = cc in absurd (omega arith)
+  leader_in [] s q e = cc
   leader_in (None ∷ l) s q e = let r = leader_in l s q e in (suc r.0, r.1)
   leader_in (Some p ∷ l) s q e = go (leader W D left l s) refl e (leader_in l s)
     where
@@ -58,8 +52,8 @@ module _ (W : Script) (D : Side) (left : W.Cursor → ℕ) where
   -- where t is below each string and somebody has it, the leader has it
   leader_has : (t : List ℕ) (l : Tasks W) (s : D.S) → ((i : ℕ) (p : W.Task) → at l i ≡ Some p → lexb t (task_string W D left p s) ≡ true) →
       (i : ℕ) (p : W.Task) → at l i ≡ Some p → task_string W D left p s ≡ t → (q : W.Task) × (leader W D left l s ≡ Some q) × (task_string W D left q s ≡ t)
-  leader_has t [] s below i p e h = let z : ◌≡◌ {A = ℕ} 0 1 = cc in absurd (omega arith)
-  leader_has t (None ∷ l) s below zero p e h = let z : ◌≡◌ {A = ℕ} 0 1 = cc in absurd (omega arith)
+  leader_has t [] s below i p e h = cc
+  leader_has t (None ∷ l) s below zero p e h = cc
   leader_has t (None ∷ l) s below (suc i) p e h = leader_has t l s (λ i p e. below (suc i) p e) i p e h
   leader_has t (Some r ∷ l) s below zero p e h = go (leader W D left l s) refl
     where
@@ -104,7 +98,7 @@ module _ (W : Script) (D : Side) where
           at (slots W D k (opened W D (next_live W D l s) (next_side W D l s))).live i ≡ Some r → final W D m p' (next_side W D l s) ≡ final W D n r
           (slots W D k (opened W D (next_live W D l s) (next_side W D l s))).side) →
           final W D (suc m) p s ≡ final W D n r (slots W D (suc k) (opened W D l s)).side
-      go (inl d) ih = let z = over_later k 0 (slot W D (opened W D l s)) (omega arith) d in let y : ◌≡◌ {A = ℕ} 0 1 = cc in absurd (omega arith)
+      go (inl d) ih = let z = over_later k 0 (slot W D (opened W D l s)) (omega arith) d in cc
       go (inr d) ih = two (eqb (rank (lead W l)) (rank (W.symbol p))) refl
         where
           nx : slots W D (suc k) (opened W D l s) ≡ slots W D k (opened W D (next_live W D l s) (next_side W D l s))
@@ -123,7 +117,7 @@ module _ (W : Script) (D : Side) where
               ∙ ap (λ v. cond v (Some (W.next p (heard D (lead W l) s))) None) f in
               let h = gone W D k (opened W D (next_live W D l s) (next_side W D l s)) i c in
               let y : Some r ≡ None = sym b ∙ ap (λ x. at x.live i) nx ∙ h in
-              let z : ◌≡◌ {A = ℕ} 0 1 = cc in absurd (omega arith)
+              cc
 
 module _ (W : Script) (D : Side) (left : W.Cursor → ℕ) (Alike : W.Cursor → W.Cursor → Type 0) (laws : Laws W left Alike) where
   fuel_final : (n m : ℕ) (p : W.Cursor) (s : D.S) → left p ≤ n → left p ≤ m → final W D n p s ≡ final W D m p s
@@ -160,7 +154,7 @@ module _ (W : Script) (D : Side) (left : W.Cursor → ℕ) (Alike : W.Cursor →
     before : (i : ℕ) (q : W.Task) → at l i ≡ Some q → k < length t
     before i q a = elim (cases_lt k (length t)) [
       | inl h ↦ h
-      | inr h ↦ let z = over_later W D k (length t) (opened W D (begins W l) s0) h (facts i q a).over in let g = goes in let y : ◌≡◌ {A = ℕ} 0 1 = cc in absurd (omega arith)
+      | inr h ↦ let z = over_later W D k (length t) (opened W D (begins W l) s0) h (facts i q a).over in let g = goes in cc
     ]
 
     led : (i : ℕ) (q : W.Task) → at l i ≡ Some q → (q : W.Task) × (leader W D left l s0 ≡ Some q) × (task_string W D left q s0 ≡ t)
@@ -217,7 +211,7 @@ module _ (W : Script) (D : Side) (left : W.Cursor → ℕ) (Alike : W.Cursor →
       last_slot i q a =
           let h = before i q a in
           elim (cases_lt (suc k) (length t)) [
-            | inl z ↦ let y = (facts i q a).early (suc k) z in let x = ap (λ x. x.over) soon ∙ rank_ends (lead W ps) stops in let w : ◌≡◌ {A = ℕ} 0 1 = cc in absurd (omega arith)
+            | inl z ↦ let y = (facts i q a).early (suc k) z in let x = ap (λ x. x.over) soon ∙ rank_ends (lead W ps) stops in cc
             | inr z ↦ omega arith
           ]
 
@@ -238,12 +232,12 @@ module _ (W : Script) (D : Side) (left : W.Cursor → ℕ) (Alike : W.Cursor →
           go false e false y d h = refl
           go true e false y d h =
               let z : same (task_string W D left q s0) (task_string W D left y s0) ≡ true = ap₂ same (f.won i (W.begin q) (begun_at W l i q a) (end_at ∙ e)) h ∙ same_refl t in
-              let x : ◌≡◌ {A = ℕ} 0 1 = cc in absurd (omega arith)
+              cc
           go false e true y d h =
               let z : task_string W D left q s0 ≡ t = same_of (task_string W D left q s0) (task_string W D left y s0) d ∙ h in
               let w : is_some (at (slots W D (length t) (opened W D (begins W l) s0)).live i) ≡ true = f.wins i (W.begin q) (begun_at W l i q a) (λ k p e. ap (λ u. lexb u (alone W D left p s0)) z ∙ f.least k p e) in
               let g = end_at in
-              let x : ◌≡◌ {A = ℕ} 0 1 = cc in absurd (omega arith)
+              cc
 
       pub stop_names : (i : ℕ) (q : W.Task) (p : W.Cursor) → at l i ≡ Some q → at ps i ≡ Some p → W.symbol p ≡ lead W ps → alone_end W D left (W.begin q) s0 ≡ p
       stop_names i q p a b e =

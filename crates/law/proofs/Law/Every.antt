@@ -1,10 +1,9 @@
 -- The law at every point of every use, from the invariant.
 use Rattle.std.proofs.Common.{◌≡◌, ℕ, zero, suc, ◌+◌, ◌<◌, ◌≤◌, Bool, true, false, ◌||◌, ◌⊎◌, List, [], ◌∷◌, get_or, is_some, Some, None, Option, sym, refl, ap, ◌∙◌, subst, ap₂, inl, inr, arith}
 use Rattle.master.specs.declared.symbol.Symbol.{Symbol}
-use Rattle.master.specs.declared.symbol.Symbol.TheVariants as symbol
 use Rattle.wire.specs.declared.wire.Event.{Event}
 use Rattle.wire.specs.declared.wire.Event.TheVariants.{Rise, Fall, Start, Stop, SteadyHigh, SteadyLow}
-use Rattle.master.specs.Masters.{ArmingModel, unarmed, armed, MasterModel, rises, new_master, arms as arms_step}
+use Rattle.master.specs.Masters.{ArmingModel, MasterModel, rises, new_master, arms as arms_step}
 use Rattle.master.specs.Scripts.{Script}
 use Rattle.law.proofs.Sides.{Side}
 use Rattle.law.proofs.Law.Machine.{Bus, tick, tick_event, tick_verdicts}
@@ -17,13 +16,10 @@ use Rattle.law.proofs.Law.Stops.{disarmed}
 use Rattle.law.proofs.Law.Steps.{Fine, tick_stands}
 
 count_one : {A : Type 0} (o w : Option A) (os : List (Option A)) → count (armed_if o w ∷ os) ≡ count (o ∷ os) + accepted (answer_if o w)
-count_one (Some q) w os = omega arith
-count_one None None os = omega arith
-count_one None (Some p) os = omega arith
+count_one o w os = grind arith
 
 count_same : {A : Type 0} (o : Option A) (os ps : List (Option A)) (n : ℕ) → count ps ≡ count os + n → count (o ∷ ps) ≡ count (o ∷ os) + n
-count_same None os ps n e = e
-count_same (Some p) os ps n e = omega arith
+count_same o os ps n h = grind arith
 
 count_arm : {A : Type 0} (os ws : List (Option A)) (i : ℕ) → count (arm_book os ws i) ≡ count os + accepted (answer os ws i)
 count_arm [] ws i = omega arith
@@ -32,13 +28,10 @@ count_arm (o ∷ os) (w ∷ ws) zero = count_one o w os
 count_arm (o ∷ os) (w ∷ ws) (suc i) = count_same o os (arm_book os ws i) (accepted (answer os ws i)) (count_arm os ws i)
 
 any_one : {A : Type 0} (o w : Option A) (b : Bool) → (is_some o || b) ≡ true → (is_some (armed_if o w) || b) ≡ true
-any_one (Some q) w b h = refl
-any_one None None b h = h
-any_one None (Some p) b h = refl
+any_one o w b h = grind arith
 
 any_same : {A : Type 0} (o : Option A) (a b : Bool) → (a ≡ true → b ≡ true) → (is_some o || a) ≡ true → (is_some o || b) ≡ true
-any_same None a b f h = f h
-any_same (Some p) a b f h = refl
+any_same o a b h k = grind arith
 
 any_arm : {A : Type 0} (os ws : List (Option A)) (i : ℕ) → any os ≡ true → any (arm_book os ws i) ≡ true
 any_arm [] ws i h = h
@@ -56,9 +49,7 @@ wanted_arm ws os i h j t e = elim (arm_from os ws i j t e) [ inl z ↦ h j t z |
 
 module _ (W : Script) where
   answer_one : (m : MasterModel W) (a : ArmingModel W) (w : Option W.Task) → (arms_step W m a w).0 ≡ answer_if (task_of W a) w
-  answer_one m (armed t) w = refl
-  answer_one m unarmed None = refl
-  answer_one m unarmed (Some t) = refl
+  answer_one m a w = grind arith
 
   answers : (ms : List (MasterModel W)) (ws : Tasks W) (i : ℕ) → arm_answer W ms ws i ≡ answer (armeds W ms) ws i
   answers [] ws i = refl
@@ -67,16 +58,10 @@ module _ (W : Script) where
   answers (m ∷ ms) (w ∷ ws) (suc i) = answers ms ws i
 
   rise_out : (m : MasterModel W) (p : W.Cursor) (x : Symbol) (b : Bool) → early_lost b x ≡ true → ((rises W m x p b).0.pulls.scl || (rises W m x p b).0.pulls.sda) ≡ false
-  rise_out m p symbol.Zero b h = let z : ◌≡◌ {A = ℕ} 0 1 = cc in absurd (omega arith)
-  rise_out m p symbol.Listen b h = let z : ◌≡◌ {A = ℕ} 0 1 = cc in absurd (omega arith)
-  rise_out m p symbol.Stop b h = let z : ◌≡◌ {A = ℕ} 0 1 = cc in absurd (omega arith)
-  rise_out m p symbol.One true h = let z : ◌≡◌ {A = ℕ} 0 1 = cc in absurd (omega arith)
-  rise_out m p symbol.One false h = refl
-  rise_out m p symbol.RepeatedStart true h = let z : ◌≡◌ {A = ℕ} 0 1 = cc in absurd (omega arith)
-  rise_out m p symbol.RepeatedStart false h = refl
+  rise_out m p x b h = grind arith
 
   never_out : (g : MasterModel W → W.Cursor → MasterModel W) (m : MasterModel W) (p : W.Cursor) → false ≡ true → ((g m p).pulls.scl || (g m p).pulls.sda) ≡ false
-  never_out g m p h = let z : ◌≡◌ {A = ℕ} 0 1 = cc in absurd (omega arith)
+  never_out g m p h = cc
 
 -- what the invariant says of one point
 module _ (W : Script) (D : Side) (left : W.Cursor → ℕ) (Alike : W.Cursor → W.Cursor → Type 0) (Fits : W.Task → Type 0) (Rest : D.S → Type 0) where
@@ -88,16 +73,8 @@ module _ (W : Script) (D : Side) (left : W.Cursor → ℕ) (Alike : W.Cursor →
   stands_armed _ _ _ _ _ _ (rose u os s0 l v sp cs k r s b n e j c m g q y) = ap (λ x. armeds W x.masters) e ∙ armeds_looks W (fresh W b) (fresh_keeps W b) cs ∙ sym g.armed
   stands_armed _ _ _ _ _ _ (high u os s0 l v sp cs k r s d c f n e j o z m g q y) = ap (λ x. armeds W x.masters) e ∙ armeds_looks W (settled W f) (λ m p. refl) cs ∙ sym g.armed
 
-  busy_not : (u u' : Bus W D) {s : D.S} → u ≡ u' → u'.wire.busy ≡ true → u.wire.busy ≡ false → u.side ≡ s
-  busy_not u u' e b h = let z : true ≡ false = sym b ∙ sym (ap (λ x. x.wire.busy) e) ∙ h in let y : ◌≡◌ {A = ℕ} 0 1 = cc in absurd (omega arith)
-
   stands_side : (u : Bus W D) (os : Tasks W) (s : D.S) (t : Option (Tasks W)) (w : Watch) (n : ℕ) → Stands W D left Alike Fits Rest u os s t w n → u.wire.busy ≡ false → u.side ≡ s
-  stands_side _ _ _ _ _ _ (idle u os s w cs e a t g q y) h = ap (λ x. x.side) e
-  stands_side _ _ _ _ _ _ (claims u os s l v sp cs e m g q y) h = ap (λ x. x.side) e
-  stands_side _ _ _ _ _ _ (begun u os s l v sp cs k n e b c m g q y) h = busy_not u (opened_bus W D cs (D.begin s) k) e refl h
-  stands_side _ _ _ _ _ _ (low u os s0 l v sp cs k r s d f f' n e b b' c m g q y) h = busy_not u (low_bus W D d cs s f f') e refl h
-  stands_side _ _ _ _ _ _ (rose u os s0 l v sp cs k r s b n e j c m g q y) h = busy_not u (fresh_bus W D b cs s) e refl h
-  stands_side _ _ _ _ _ _ (high u os s0 l v sp cs k r s d c f n e j o z m g q y) h = busy_not u (settled_bus W D d c cs s f) e refl h
+  stands_side u os s t w n h k = grind arith
 
   outs : (u u' : Bus W D) (f : Symbol → Bool) (g : MasterModel W → W.Cursor → MasterModel W) (each : (m : MasterModel W) (p : W.Cursor) → f (W.symbol p) ≡ true → ((g m p).pulls.scl || (g m p).pulls.sda) ≡ false)
       (l : Tasks W) (cs : List (Cell W)) (v : List Bool) (i : ℕ) → u ≡ u' → u'.masters ≡ looks W g cs → v ≡ marked W f l cs → get_or v i false ≡ true → pulling W u.masters i ≡ false
@@ -105,7 +82,7 @@ module _ (W : Script) (D : Side) (left : W.Cursor → ℕ) (Alike : W.Cursor →
 
   stands_out : (u : Bus W D) (os : Tasks W) (s : D.S) (t : Option (Tasks W)) (w : Watch) (n : ℕ) → Stands W D left Alike Fits Rest u os s t w n →
       is_some t ≡ true → (i : ℕ) → get_or w.marked i false ≡ true → pulling W u.masters i ≡ false
-  stands_out _ _ _ _ _ _ (idle u os s w cs e a t g q y) h i k = let z : ◌≡◌ {A = ℕ} 0 1 = cc in absurd (omega arith)
+  stands_out _ _ _ _ _ _ (idle u os s w cs e a t g q y) h i k = cc
   stands_out _ _ _ _ _ _ (claims u os s l v sp cs e m g q y) h i k = outs u (claimed_bus W D cs s) never (claimed W) (never_out W (claimed W)) l cs v i e refl m.0 k
   stands_out _ _ _ _ _ _ (begun u os s l v sp cs f n e b c m g q y) h i k = outs u (opened_bus W D cs (D.begin s) f) never (opened W f) (never_out W (opened W f)) l cs v i e refl m.0 k
   stands_out _ _ _ _ _ _ (low u os s0 l v sp cs k r s d f f' n e b b' c m g q y) h i z = outs u (low_bus W D d cs s f f') never (lowered W f') (never_out W (lowered W f')) l cs v i e refl m.0 z
@@ -113,12 +90,7 @@ module _ (W : Script) (D : Side) (left : W.Cursor → ℕ) (Alike : W.Cursor →
   stands_out _ _ _ _ _ _ (high u os s0 l v sp cs k r s d c f n e j o z m g q y) h i x = outs u (settled_bus W D d c cs s f) never (settled W f) (never_out W (settled W f)) l cs v i e refl m.0 x
 
   stands_left : (u : Bus W D) (os : Tasks W) (s : D.S) (t : Option (Tasks W)) (w : Watch) (n : ℕ) → Stands W D left Alike Fits Rest u os s t w n → n ≤ 159999
-  stands_left _ _ _ _ _ _ (idle u os s w cs e a t g q y) = omega arith
-  stands_left _ _ _ _ _ _ (claims u os s l v sp cs e m g q y) = omega arith
-  stands_left _ _ _ _ _ _ (begun u os s l v sp cs f n e b c m g q y) = omega arith
-  stands_left _ _ _ _ _ _ (low u os s0 l v sp cs k r s d f f' n e b b' c m g q y) = let z = q.sums in omega arith
-  stands_left _ _ _ _ _ _ (rose u os s0 l v sp cs k r s b n e j c m g q y) = let z = q.sums in omega arith
-  stands_left _ _ _ _ _ _ (high u os s0 l v sp cs k r s d c f n e j o z m g q y) = let x = q.sums in omega arith
+  stands_left u os s t w n h = grind arith
 
 -- the making
 module _ (W : Script) where
@@ -175,7 +147,7 @@ module _ (W : Script) (D : Side) (left : W.Cursor → ℕ) (H : Hosts W) (Alike 
   }
     where
       nobody_armed : {X : Type 0} (j : ℕ) (t : W.Task) → at (armeds W (fresh_masters W cs)) j ≡ Some t → X
-      nobody_armed j t e = let z : None ≡ Some t = sym (made_unarmed W cs j) ∙ e in let y : ◌≡◌ {A = ℕ} 0 1 = cc in absurd (omega arith)
+      nobody_armed j t e = let z : None ≡ Some t = sym (made_unarmed W cs j) ∙ e in cc
 
 module _ (W : Script) (D : Side) (left : W.Cursor → ℕ) (H : Hosts W) (Alike : W.Cursor → W.Cursor → Type 0) (Fits : W.Task → Type 0) (Rest : D.S → Type 0) (laws : Laws W left Alike) (plays : Plays W D left H Alike Fits Rest) where
   unheard : (a : H.State) (os : Tasks W) → H.hear a (nobody os) ≡ a
@@ -254,7 +226,7 @@ module _ (W : Script) (D : Side) (left : W.Cursor → ℕ) (H : Hosts W) (Alike 
           x.told < (uses W D left H (does W D left H x (ticks t)) us).told
       go (inl z) ih = let y = g in let c = ap count (fine x n t h.0 k).tells in omega arith
       go (inr (inl z)) ih = let y = ih (ap any z.1 ∙ a) (let q = z.0 in omega arith) in omega arith
-      go (inr (inr z)) ih = let y : ◌≡◌ {A = ℕ} 0 1 = cc in absurd (omega arith)
+      go (inr (inr z)) ih = cc
 
   law_at : (x : Use W D H) (n : ℕ) → Kept W D left H Alike Fits Rest x n → Law W D left H x
   law_at x n k =

@@ -12,7 +12,7 @@ use Rattle.law.proofs.Law.Lists.{rank_top}
 use Rattle.law.proofs.Law.Order.{rank_inj, top_listens, lead_least, lead_shown, at_keep, Kept, kept}
 
 pub not_end : (x : Symbol) → ends x ≡ false → x ≡ Stop → ⊥
-not_end x e d = let z : false ≡ true = cc in let y : ◌≡◌ {A = ℕ} 0 1 = cc in omega arith
+not_end x e d = let z : false ≡ true = cc in cc
 
 pub lexb_same : (a : ℕ) (t u : List ℕ) → lexb (a ∷ t) (a ∷ u) ≡ lexb t u
 lexb_same a t u = rw (eq-eqb a a refl)

@@ -11,13 +11,13 @@ use Rattle.law.proofs.Law.Lists.{step_all, turns_live, sda_all, all_of, via}
 
 module _ (W : Script) where
   opened_one : (m : MasterModel W) (p : W.Cursor) (e : ℕ) → (master_step W (opened W e m p) (shown SteadyHigh None false)).0 ≡ opened W (e + 1) m p
-  opened_one m p e = let z : m.high - e - 1 ≡ m.high - (e + 1) = omega arith in rw z
+  opened_one m p e = grind arith
 
   opened_fall : (m : MasterModel W) (p : W.Cursor) (e : ℕ) → Times W m → (master_step W (opened W e m p) (shown Fall None false)).0 ≡ lowered W 0 m p
   opened_fall m p e t = grind (arith, nat_tests)
 
   settled_one : (m : MasterModel W) (p : W.Cursor) (e : ℕ) → (master_step W (settled W e m p) (shown SteadyHigh None false)).0 ≡ settled W (e + 1) m p
-  settled_one m p e = let z : m.high - e - 1 ≡ m.high - (e + 1) = omega arith in rw z
+  settled_one m p e = grind arith
 
   settled_fall : (k : Option Bool) (m : MasterModel W) (p : W.Cursor) (e : ℕ) → Times W m → (master_step W (settled W e m p) (shown Fall k false)).0 ≡ look W (lowered W 0) (goes_on W (unwrap_or k true) m p)
   settled_fall k m p e t = grind (arith, nat_tests)

@@ -1,5 +1,5 @@
 -- One event for a whole list of masters, from what it makes of one; and what holds of the least rank shown.
-use Rattle.std.proofs.Common.{◌≡◌, ℕ, ◌≤◌, Bool, true, false, ◌||◌, List, [], ◌∷◌, refl, ap, ◌∙◌, ap₂, arith}
+use Rattle.std.proofs.Common.{◌≡◌, ℕ, ◌≤◌, Bool, true, false, ◌||◌, List, [], ◌∷◌, refl, ap, ap₂, arith}
 use Rattle.master.specs.declared.symbol.Symbol.{Symbol}
 use Rattle.wire.specs.declared.wire.Levels.{Levels}
 use Rattle.wire.specs.declared.wire.Signal.{Signal}
@@ -85,7 +85,7 @@ module _ (W : Script) where
 module _ (W : Script) (D : Side) where
   -- a tick, by the levels that it finds
   pub via : (u w : Bus W D) (v : Levels) (h : ℕ) → levels W D u ≡ v → after W D u v h ≡ w → tick W D u h ≡ w
-  via u w v h l a = ap (λ x. after W D u x h) l ∙ a
+  via u w v h k e = grind arith
 
   pub via_verdicts : (u : Bus W D) (ks : List (VerdictModel W)) (v : Levels) → levels W D u ≡ v → said W D u v ≡ ks → tick_verdicts W D u ≡ ks
-  via_verdicts u ks v l a = ap (λ x. said W D u x) l ∙ a
+  via_verdicts u ks v h k = grind arith

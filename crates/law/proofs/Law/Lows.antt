@@ -12,7 +12,7 @@ use Rattle.law.proofs.Law.Lists.{sda_all, via}
 
 module _ (W : Script) where
   lowered_one : (m : MasterModel W) (p : W.Cursor) (e : ℕ) → (master_step W (lowered W e m p) (shown SteadyLow None false)).0 ≡ lowered W (e + 1) m p
-  lowered_one m p e = let z : m.low - e - 1 ≡ m.low - (e + 1) = omega arith in rw z
+  lowered_one m p e = grind arith
 
   lowered_step : (cs : List (Cell W)) (e : ℕ) → masters_step W (looks W (lowered W e) cs) (shown SteadyLow None false) ≡ looks W (lowered W (e + 1)) cs
   lowered_step [] e = refl
@@ -23,7 +23,7 @@ module _ (W : Script) where
   lowered_sda cs e = sda_all W (lowered W e) pulls_sda (λ m p. refl) cs
 
   released_one : (m : MasterModel W) (p : W.Cursor) (e : ℕ) → (lowered W e m p).pulls.scl ≡ false → lowered W e m p ≡ released W m p
-  released_one m p e h = let z : m.low - e ≡ 0 = grind (arith, nat_tests) in rw z
+  released_one m p e h = grind arith
 
   released_all : (cs : List (Cell W)) (e : ℕ) → any_scl W (looks W (lowered W e) cs) ≡ false → looks W (lowered W e) cs ≡ looks W (released W) cs
   released_all [] e h = refl

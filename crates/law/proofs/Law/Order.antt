@@ -1,29 +1,18 @@
 -- Symbols by their ranks, the leading symbol, and who is kept.
-use Rattle.std.proofs.Common.{◌≡◌, ℕ, zero, suc, ◌≤◌, Bool, true, false, cond, eqb, leb, ◌⊎◌, List, [], ◌∷◌, Some, None, Option, sym, refl, ap, ◌∙◌, inl, inr, arith}
-use Rattle.std.proofs.lemmas.Bool.{eqb-true}
+use Rattle.std.proofs.Common.{◌≡◌, ℕ, zero, suc, ◌≤◌, Bool, ◌⊎◌, List, [], ◌∷◌, Some, None, Option, sym, refl, ◌∙◌, inl, inr, arith}
+use Rattle.std.proofs.Math.ListN.{get_or-map}
 use Rattle.std.proofs.lemmas.Bool.Decides.{nat_tests}
 use Rattle.master.specs.declared.symbol.Symbol.{Symbol}
-use Rattle.master.specs.declared.symbol.Symbol.TheVariants.{Zero, One, Listen, RepeatedStart, Stop}
+use Rattle.master.specs.declared.symbol.Symbol.TheVariants.{Listen}
 use Rattle.master.specs.Scripts.{Script}
 use Rattle.law.proofs.Law.Phases.{rank}
 use Rattle.law.proofs.Law.Race.{at, lower, lead, keep, keep_all}
-use Rattle.law.proofs.Law.Lists.{rank_top}
-
-abbrev named : ℕ → Symbol
-named n = cond (eqb n 0) Zero (cond (eqb n 1) Stop (cond (eqb n 2) RepeatedStart (cond (eqb n 3) One Listen)))
-
-named_rank : (x : Symbol) → named (rank x) ≡ x
-named_rank Zero = refl
-named_rank One = refl
-named_rank Listen = refl
-named_rank RepeatedStart = refl
-named_rank Stop = refl
 
 pub rank_inj : (x y : Symbol) → rank x ≡ rank y → x ≡ y
-rank_inj x y e = sym (named_rank x) ∙ ap named e ∙ named_rank y
+rank_inj x y h = grind arith
 
 pub top_listens : (x : Symbol) → 4 ≤ rank x → x ≡ Listen
-top_listens x h = rank_inj x Listen (omega (arith, rank_top x))
+top_listens x h = grind arith
 
 pub lower_left : (x y : Symbol) → rank (lower x y) ≤ rank x
 lower_left x y = grind (arith, nat_tests)
@@ -32,12 +21,12 @@ pub lower_right : (x y : Symbol) → rank (lower x y) ≤ rank y
 lower_right x y = grind (arith, nat_tests)
 
 pub lower_either : (x y : Symbol) → (lower x y ≡ x) ⊎ (lower x y ≡ y)
-lower_either x y = elim (leb (rank x) (rank y)) as (λ b. (cond b x y ≡ x) ⊎ (cond b x y ≡ y)) [ true ↦ inl refl | false ↦ inr refl ]
+lower_either x y = grind arith
 
 module _ (W : Script) where
   pub lead_least : (l : List (Option W.Cursor)) (i : ℕ) (p : W.Cursor) → at l i ≡ Some p → rank (lead W l) ≤ rank (W.symbol p)
-  lead_least [] i p e = let z : ◌≡◌ {A = ℕ} 0 1 = cc in omega arith
-  lead_least (None ∷ l) zero p e = let z : ◌≡◌ {A = ℕ} 0 1 = cc in omega arith
+  lead_least [] i p e = cc
+  lead_least (None ∷ l) zero p e = cc
   lead_least (None ∷ l) (suc i) p e = lead_least l i p e
   lead_least (Some q ∷ l) zero p e = let z : q ≡ p = cc in rw (← z) (lower_left (W.symbol q) (lead W l))
   lead_least (Some q ∷ l) (suc i) p e = omega (arith, lower_right (W.symbol q) (lead W l), lead_least l i p e)
@@ -55,9 +44,7 @@ module _ (W : Script) where
   ]
 
   pub at_keep : (x : Symbol) (b : Bool) (l : List (Option W.Cursor)) (i : ℕ) → at (keep_all W x b l) i ≡ keep W x b (at l i)
-  at_keep x b [] i = refl
-  at_keep x b (p ∷ l) zero = refl
-  at_keep x b (p ∷ l) (suc i) = at_keep x b l i
+  at_keep x b l i = get_or-map (keep W x b) l i None
 
   pub record Kept (x : Symbol) (b : Bool) (o : Option W.Cursor) (r : W.Cursor) : Type 0 where
     pub was : W.Cursor
@@ -66,9 +53,4 @@ module _ (W : Script) where
     pub rest : r ≡ W.next was b
 
   pub kept : (x : Symbol) (b : Bool) (o : Option W.Cursor) (r : W.Cursor) → keep W x b o ≡ Some r → Kept x b o r
-  kept x b None r e = let z : ◌≡◌ {A = ℕ} 0 1 = cc in absurd (omega arith)
-  kept x b (Some p) r e = go (eqb (rank x) (rank (W.symbol p))) refl e
-    where
-      go : (t : Bool) → eqb (rank x) (rank (W.symbol p)) ≡ t → cond t (Some (W.next p b)) None ≡ Some r → Kept x b (Some p) r
-      go true d f = record { was = p; there = refl; shows = rank_inj (W.symbol p) x (sym (eqb-true (rank x) (rank (W.symbol p)) d)); rest = cc }
-      go false d f = let z : ◌≡◌ {A = ℕ} 0 1 = cc in absurd (omega arith)
+  kept x b o r h = grind arith

@@ -1,5 +1,5 @@
 -- The phases of a slot: the whole bus as a function of the cells, the side and the ticks gone by.
-use Rattle.std.proofs.Common.{◌≡◌, ℕ, ◌-◌, ◌≤◌, min, Bool, true, false, cond, not, ◌||◌, eqb, ltb, ◌⊎◌, List, [], ◌∷◌, Some, None, Option}
+use Rattle.std.proofs.Common.{◌≡◌, ℕ, ◌-◌, ◌≤◌, min, Bool, true, false, cond, not, ◌||◌, eqb, ltb, ◌⊎◌, List, [], ◌∷◌, Some, None, Option, map}
 use Rattle.master.specs.declared.symbol.Symbol.{Symbol}
 use Rattle.master.specs.declared.symbol.Symbol.TheVariants.{Zero, One, Listen, RepeatedStart, Stop}
 use Rattle.wire.specs.declared.wire.Event.{Event}
@@ -73,8 +73,7 @@ module _ (W : Script) where
   look f (live m p) = f m p
 
   abbrev pub looks : (MasterModel W → W.Cursor → MasterModel W) → List Cell → List (MasterModel W)
-  looks f [] = []
-  looks f (c ∷ cs) = look f c ∷ looks f cs
+  looks f cs = map (look f) cs
 
   -- what becomes of the live ones
   abbrev pub turn : (MasterModel W → W.Cursor → Cell) → Cell → Cell
@@ -82,8 +81,7 @@ module _ (W : Script) where
   turn h (live m p) = h m p
 
   abbrev pub turns : (MasterModel W → W.Cursor → Cell) → List Cell → List Cell
-  turns h [] = []
-  turns h (c ∷ cs) = turn h c ∷ turns h cs
+  turns h cs = map (turn h) cs
 
   -- the verdicts on the live ones, by symbol and cursor
   abbrev pub note : (Symbol → W.Cursor → VerdictModel W) → Cell → VerdictModel W
@@ -91,8 +89,7 @@ module _ (W : Script) where
   note k (live m p) = k (W.symbol p) p
 
   abbrev pub notes : (Symbol → W.Cursor → VerdictModel W) → List Cell → List (VerdictModel W)
-  notes k [] = []
-  notes k (c ∷ cs) = note k c ∷ notes k cs
+  notes k cs = map (note k) cs
 
   abbrev pub no_verdict : Symbol → W.Cursor → VerdictModel W
   no_verdict x p = quiet
@@ -118,8 +115,7 @@ module _ (W : Script) where
   cursor (live m p) = Some p
 
   abbrev pub cursors : List Cell → List (Option W.Cursor)
-  cursors [] = []
-  cursors (c ∷ cs) = cursor c ∷ cursors cs
+  cursors cs = map cursor cs
 
   abbrev pub idling : MasterModel W → W.Cursor → MasterModel W
   idling m p = off m
@@ -212,8 +208,7 @@ module _ (W : Script) where
   claim m (armed t) = live m (W.begin t)
 
   abbrev pub claim_all : List Cell → List Cell
-  claim_all [] = []
-  claim_all (c ∷ cs) = claim (who c) (who c).arming ∷ claim_all cs
+  claim_all cs = map (λ c. claim (who c) (who c).arming) cs
 
 module _ (W : Script) (D : Side) where
   abbrev pub bus : Bool → Bool → Bool → List (MasterModel W) → D.S → Option Bool → ℕ → Bus W D

@@ -2,7 +2,7 @@
 use Rattle.std.proofs.Common.{◌≡◌, ℕ, Bool, true, false, List, None, Option, refl, arith}
 use Rattle.std.proofs.lemmas.Bool.Decides.{nat_tests}
 use Rattle.wire.specs.declared.wire.Event.TheVariants.{Rise, Fall, Start, SteadyHigh, SteadyLow}
-use Rattle.master.specs.Masters.{ArmingModel, unarmed, armed, MasterModel, quiet, contends}
+use Rattle.master.specs.Masters.{ArmingModel, MasterModel, quiet, contends}
 use Rattle.master.specs.Scripts.{Script}
 use Rattle.law.proofs.Law.Machine.{verdicts}
 use Rattle.law.proofs.Law.Phases.{shown, Cell, off, looks, notes, no_verdict, early, idling, claimed, opened, lowered, settled}
@@ -31,8 +31,7 @@ module _ (W : Script) where
   claimed_quiet cs = verdicts_all W (claimed W) (no_verdict W) (shown Start None false) (λ x. Unit {0}) (λ m. refl) (λ m p q. refl) cs (all_of W cs)
 
   idle_one : (m : MasterModel W) (a : ArmingModel W) → (contends W m a).1 ≡ quiet
-  idle_one m unarmed = refl
-  idle_one m (armed t) = refl
+  idle_one m a = grind arith
 
   pub idle_quiet : (cs : List (Cell W)) → verdicts W (looks W (idling W) cs) (shown SteadyHigh None true) ≡ notes W (no_verdict W) cs
   idle_quiet cs = verdicts_all W (idling W) (no_verdict W) (shown SteadyHigh None true) (λ x. Unit {0}) (λ m. idle_one (off W m) m.arming) (λ m p q. idle_one (off W m) m.arming) cs (all_of W cs)

@@ -1,5 +1,5 @@
 -- One arbitration, slot by slot, and what each contender would carry alone.
-use Rattle.std.proofs.Common.{◌≡◌, ℕ, zero, suc, ◌<◌, ◌≤◌, Bool, true, false, cond, eqb, ltb, leb, List, [], ◌∷◌, length, get_or, Some, None, Option}
+use Rattle.std.proofs.Common.{◌≡◌, ℕ, zero, suc, ◌<◌, ◌≤◌, Bool, true, false, cond, eqb, ltb, leb, List, [], ◌∷◌, length, get_or, Some, None, Option, map}
 use Rattle.master.specs.declared.symbol.Symbol.{Symbol}
 use Rattle.master.specs.declared.symbol.Symbol.TheVariants.{Listen, Stop}
 use Rattle.master.specs.Scripts.{Script}
@@ -43,8 +43,7 @@ module _ (W : Script) where
   keep x b (Some p) = cond (eqb (rank x) (rank (W.symbol p))) (Some (W.next p b)) None
 
   abbrev pub keep_all : Symbol → Bool → List (Option W.Cursor) → List (Option W.Cursor)
-  keep_all x b [] = []
-  keep_all x b (p ∷ ps) = keep x b p ∷ keep_all x b ps
+  keep_all x b ps = map (keep x b) ps
 
 module _ (W : Script) (D : Side) where
   pub record Joint : Type 0 where

@@ -1,9 +1,9 @@
 -- The slots of an open turn: what the live cursors and the side keep, and what a slot carries.
-use Rattle.std.proofs.Common.{◌≡◌, ℕ, zero, suc, ◌+◌, ◌<◌, ◌≤◌, min, Bool, true, false, cond, not, ◌||◌, eqb, ltb, ◌⊎◌, List, [], ◌∷◌, ◌++◌, Some, None, Option, sym, refl, ap, ◌∙◌, subst, ap₂, inl, inr, arith}
+use Rattle.std.proofs.Common.{◌≡◌, ℕ, zero, suc, ◌+◌, ◌<◌, ◌≤◌, min, Bool, true, false, cond, not, ◌||◌, eqb, ◌⊎◌, List, [], ◌∷◌, ◌++◌, Some, None, Option, sym, refl, ap, ◌∙◌, subst, ap₂, inl, inr, arith}
 use Rattle.std.proofs.lemmas.Bool.Decides.{nat_tests}
 use Rattle.std.proofs.lemmas.Bool.{cases_lt}
 use Rattle.master.specs.declared.symbol.Symbol.{Symbol}
-use Rattle.master.specs.declared.symbol.Symbol.TheVariants.{Zero, One, Listen, RepeatedStart, Stop}
+use Rattle.master.specs.declared.symbol.Symbol.TheVariants.{Listen, Stop}
 use Rattle.master.specs.Masters.{MasterModel}
 use Rattle.master.specs.Scripts.{Script}
 use Rattle.master.specs.Symbols.{pulls_sda}
@@ -16,15 +16,8 @@ use Rattle.law.proofs.Law.Stays.{alive_least}
 use Rattle.law.proofs.Law.Order.{rank_inj, top_listens, lead_least, lead_shown}
 use Rattle.law.proofs.Law.Fates.{moves, not_end, Fair, fair_next, kept_at}
 
-pulls_rank : (x : Symbol) → pulls_sda x ≡ ltb (rank x) 2
-pulls_rank Zero = refl
-pulls_rank One = refl
-pulls_rank Listen = refl
-pulls_rank RepeatedStart = refl
-pulls_rank Stop = refl
-
 pulls_lower : (x y : Symbol) → pulls_sda (lower x y) ≡ (pulls_sda x || pulls_sda y)
-pulls_lower x y = grind (arith, nat_tests, pulls_rank)
+pulls_lower x y = grind arith
 
 rank_lower : (x y : Symbol) → rank (lower x y) ≡ min (rank x) (rank y)
 rank_lower x y = grind (arith, nat_tests)
@@ -34,56 +27,28 @@ eqb_swap a b = grind (arith, nat_tests)
 
 module _ (D : Side) where
   level : (x : Symbol) (s : D.S) → ((x ≡ Listen → ⊥) → D.pulls s ≡ false) → heard D x s ≡ not (pulls_sda x || D.pulls s)
-  level Zero s h = refl
-  level One s h = rw (h (λ e. let z : ◌≡◌ {A = ℕ} 0 1 = cc in omega arith))
-  level Listen s h = refl
-  level RepeatedStart s h = rw (h (λ e. let z : ◌≡◌ {A = ℕ} 0 1 = cc in omega arith))
-  level Stop s h = refl
+  level x s h = grind arith
 
   pub after_again : (x : Symbol) (s : D.S) → rank x ≡ 2 → after D x s ≡ D.begin s
-  after_again Zero s h = absurd (omega arith)
-  after_again One s h = absurd (omega arith)
-  after_again Listen s h = absurd (omega arith)
-  after_again RepeatedStart s h = refl
-  after_again Stop s h = absurd (omega arith)
+  after_again x s h = grind arith
 
   pub after_stop : (x : Symbol) (s : D.S) → rank x ≡ 1 → after D x s ≡ D.finish s
-  after_stop Zero s h = absurd (omega arith)
-  after_stop One s h = absurd (omega arith)
-  after_stop Listen s h = absurd (omega arith)
-  after_stop RepeatedStart s h = absurd (omega arith)
-  after_stop Stop s h = refl
+  after_stop x s h = grind arith
 
   pub after_bit : (x : Symbol) (s : D.S) → (rank x ≡ 1 → ⊥) → (rank x ≡ 2 → ⊥) → after D x s ≡ D.bit s (heard D x s)
-  after_bit Zero s h k = refl
-  after_bit One s h k = refl
-  after_bit Listen s h k = refl
-  after_bit RepeatedStart s h k = absurd (k refl)
-  after_bit Stop s h k = absurd (h refl)
-
-  pull_letter : (b : Bool) → cond b 0 3 ≡ bit_letter (not b)
-  pull_letter true = refl
-  pull_letter false = refl
+  after_bit x s h k = grind arith
 
   pub letter_bit : (x : Symbol) (s : D.S) → (rank x ≡ 1 → ⊥) → (rank x ≡ 2 → ⊥) → letter D x s ≡ bit_letter (heard D x s)
-  letter_bit Zero s h k = refl
-  letter_bit One s h k = refl
-  letter_bit Listen s h k = pull_letter (D.pulls s)
-  letter_bit RepeatedStart s h k = absurd (k refl)
-  letter_bit Stop s h k = absurd (h refl)
+  letter_bit x s h k = grind arith
 
   pub letter_again : (x : Symbol) (s : D.S) → rank x ≡ 2 → letter D x s ≡ 2
-  letter_again x s h = ap (λ y. letter D y s) (rank_inj x RepeatedStart h)
+  letter_again x s h = grind arith
 
   pub letter_stop : (x : Symbol) (s : D.S) → rank x ≡ 1 → letter D x s ≡ 1
-  letter_stop x s h = ap (λ y. letter D y s) (rank_inj x Stop h)
+  letter_stop x s h = grind arith
 
 pub ends_rank : (x : Symbol) → (rank x ≡ 1 → ⊥) → ends x ≡ false
-ends_rank Zero h = refl
-ends_rank One h = refl
-ends_rank Listen h = refl
-ends_rank RepeatedStart h = refl
-ends_rank Stop h = absurd (h refl)
+ends_rank x h = grind arith
 
 pub rank_ends : (x : Symbol) → rank x ≡ 1 → ends x ≡ true
 rank_ends x h = ap ends (rank_inj x Stop h)
@@ -103,8 +68,7 @@ module _ (W : Script) where
   leads cs v = omega (arith, least_lead cs, alive_least W cs v)
 
   keep_one : (v b : Bool) (m : MasterModel W) (p : W.Cursor) → cond v (Some (W.next p b)) None ≡ cursor W (turn W (λ m p. live m (W.next p b)) (stay_if W v m p))
-  keep_one true b m p = refl
-  keep_one false b m p = refl
+  keep_one v b m p = grind arith
 
   pub keep_cells : (x : Symbol) (n : ℕ) (b : Bool) (cs : List (Cell W)) → rank x ≡ n → keep_all W x b (cursors W cs) ≡ cursors W (advance W b (stay W n cs))
   keep_cells x n b [] e = refl
@@ -118,7 +82,7 @@ module _ (W : Script) where
   every_at Q (live m p ∷ cs) h = (h 0 p refl, every_at Q cs (λ i p e. h (suc i) p e))
 
   pub alive_at : (cs : List (Cell W)) → alive W cs ≡ true → (i : ℕ) × ((p : W.Cursor) × (at (cursors W cs) i ≡ Some p))
-  alive_at [] h = let z : ◌≡◌ {A = ℕ} 0 1 = cc in absurd (omega arith)
+  alive_at [] h = cc
   alive_at (out m ∷ cs) h = let q = alive_at cs h in (suc q.0, q.1)
   alive_at (live m p ∷ cs) h = (0, (p, refl))
 
@@ -147,7 +111,7 @@ module _ (W : Script) (D : Side) (left : W.Cursor → ℕ) (Alike : W.Cursor →
 module _ (W : Script) (D : Side) (left : W.Cursor → ℕ) (Alike : W.Cursor → W.Cursor → Type 0) where
   pub spells : (l : List (Option W.Cursor)) (s0 : D.S) (k r : ℕ) (ps : List (Option W.Cursor)) (s : D.S) (c : ℕ) → Run W D left Alike l s0 k r ps s → letter D (lead W ps) s ≡ c →
       spelled W D l s0 k ++ (c ∷ []) ≡ spelled W D l s0 (suc k)
-  spells l s0 k r ps s c h e = ap (λ x. spelled W D l s0 k ++ (x ∷ [])) (sym e ∙ sym (ap (λ j. letter D (lead W j.live) j.side) h.runs))
+  spells l s0 k r ps s c h e = grind arith
 
 module _ (W : Script) (D : Side) (left : W.Cursor → ℕ) (Alike : W.Cursor → W.Cursor → Type 0) (laws : Laws W left Alike) where
   quiet_next : (x : Symbol) (p r : W.Cursor) (s : D.S) → W.symbol p ≡ x → r ≡ W.next p (heard D x s) → ends x ≡ false → Quiet W D p s → Quiet W D r (after D x s)

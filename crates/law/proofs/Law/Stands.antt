@@ -1,13 +1,11 @@
 -- The invariant of a bus and its book, between any two steps; and that an arm keeps it.
-use Rattle.std.proofs.Common.{◌≡◌, ℕ, zero, suc, ◌+◌, ◌-◌, ◌*◌, ◌≤◌, Bool, true, false, not, ◌||◌, ◌⊎◌, List, [], ◌∷◌, Some, None, Option, unwrap_or, sym, refl, ap, ◌∙◌, subst, inl, inr}
-use Rattle.master.specs.declared.symbol.Symbol.{Symbol}
-use Rattle.master.specs.declared.symbol.Symbol.TheVariants.{Zero, One, Listen, RepeatedStart, Stop}
-use Rattle.master.specs.Masters.{MasterModel, rises}
+use Rattle.std.proofs.Common.{◌≡◌, ℕ, zero, suc, ◌+◌, ◌-◌, ◌*◌, ◌≤◌, Bool, true, false, not, ◌||◌, ◌⊎◌, List, [], ◌∷◌, Some, None, Option, unwrap_or, sym, refl, ap, ◌∙◌, subst, inl, inr, arith}
+use Rattle.master.specs.Masters.{MasterModel}
 use Rattle.master.specs.Scripts.{Script}
 use Rattle.master.specs.Symbols.{pulls_sda}
 use Rattle.law.proofs.Sides.{Side}
 use Rattle.law.proofs.Law.Machine.{taken, Bus}
-use Rattle.law.proofs.Law.Phases.{holds, early_lost, Cell, looks, cursors, idling, claimed, opened, lowered, released, fresh, settled, some, alive, Timed, advance, bus, free_bus, claimed_bus, opened_bus, low_bus, fresh_bus, settled_bus, carries}
+use Rattle.law.proofs.Law.Phases.{holds, early_lost, Cell, looks, cursors, idling, claimed, opened, lowered, fresh, settled, some, alive, Timed, advance, bus, free_bus, claimed_bus, opened_bus, low_bus, fresh_bus, settled_bus, carries}
 use Rattle.law.proofs.Law.Race.{at}
 use Rattle.law.proofs.Law.Uses.{Tasks, armed_if, arm_book, begins, Spell, spell, fallen, Watch, watch, arm_bus}
 use Rattle.law.proofs.Law.Cells.{cell_armeds, Holding, Within, marked, never, arm_cells, arm_looks, arm_armeds, arm_timed, arm_holding, arm_within, arm_some, arm_cursors, arm_marked, arm_advance}
@@ -62,17 +60,8 @@ module _ (W : Script) (D : Side) (left : W.Cursor → ℕ) (Alike : W.Cursor →
         Stands u os s0 (Some l) (watch (suc k) true v sp) n
 
 module _ (W : Script) where
-  rise_keeps : (m : MasterModel W) (p : W.Cursor) (x : Symbol) (b : Bool) → (rises W m x p b).0.arming ≡ m.arming
-  rise_keeps m p Zero b = refl
-  rise_keeps m p Listen b = refl
-  rise_keeps m p One true = refl
-  rise_keeps m p One false = refl
-  rise_keeps m p RepeatedStart true = refl
-  rise_keeps m p RepeatedStart false = refl
-  rise_keeps m p Stop b = refl
-
   pub fresh_keeps : (b : Bool) (m : MasterModel W) (p : W.Cursor) → (fresh W b m p).arming ≡ m.arming
-  fresh_keeps b m p = rise_keeps (released W m p) p (W.symbol p) b
+  fresh_keeps b m p = grind arith
 
   arm_crew : (l os : Tasks W) (cs : List (Cell W)) (ws : Tasks W) (i : ℕ) → Crew W l os cs → Crew W l (arm_book os ws i) (arm_cells W cs ws i)
   arm_crew l os cs ws i g = record {
@@ -84,8 +73,7 @@ module _ (W : Script) where
   }
 
 armed_from : {A : Type 0} (o w : Option A) (p : A) → armed_if o w ≡ Some p → (o ≡ Some p) ⊎ (w ≡ Some p)
-armed_from (Some q) w p e = inl e
-armed_from None w p e = inr e
+armed_from o w p h = grind arith
 
 pub arm_from : {A : Type 0} (os ws : List (Option A)) (i j : ℕ) (p : A) → at (arm_book os ws i) j ≡ Some p → (at os j ≡ Some p) ⊎ (at ws j ≡ Some p)
 arm_from [] ws i j p e = inl e

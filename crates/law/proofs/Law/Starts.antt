@@ -2,7 +2,7 @@
 use Rattle.std.proofs.Common.{◌≡◌, ℕ, true, false, List, [], ◌∷◌, None, refl, ap, ap₂, arith}
 use Rattle.std.proofs.lemmas.Bool.Decides.{nat_tests}
 use Rattle.wire.specs.declared.wire.Event.TheVariants.{Start, SteadyHigh}
-use Rattle.master.specs.Masters.{ArmingModel, unarmed, armed, MasterModel, contends, master_step}
+use Rattle.master.specs.Masters.{ArmingModel, MasterModel, contends, master_step}
 use Rattle.master.specs.Scripts.{Script}
 use Rattle.law.proofs.Sides.{Side}
 use Rattle.law.proofs.Law.Machine.{any_sda, masters_step, levels, tick}
@@ -11,8 +11,7 @@ use Rattle.law.proofs.Law.Lists.{sda_all, scl_none, via}
 
 module _ (W : Script) where
   claim_one : (m : MasterModel W) (a : ArmingModel W) → (contends W (off W m) a).0 ≡ look W (claimed W) (claim W m a)
-  claim_one m unarmed = refl
-  claim_one m (armed t) = refl
+  claim_one m a = grind arith
 
   claiming : (cs : List (Cell W)) → masters_step W (looks W (idling W) cs) (shown SteadyHigh None true) ≡ looks W (claimed W) (claim_all W cs)
   claiming [] = refl

@@ -9,8 +9,7 @@ use Rattle.law.proofs.Law.Lists.{rank_top, some_false, every, least_some, least_
 
 module _ (W : Script) where
   timed_if : (v : Bool) (m : MasterModel W) (p : W.Cursor) → Times W m → Times W (who W (stay_if W v m p))
-  timed_if true m p t = t
-  timed_if false m p t = t
+  timed_if v m p h = grind arith
 
   pub timed_stay : (n : ℕ) (cs : List (Cell W)) → Timed W cs → Timed W (stay W n cs)
   timed_stay n [] t = tt
@@ -23,8 +22,7 @@ module _ (W : Script) where
   timed_advance b (live m p ∷ cs) t = (t.0, timed_advance b cs t.1)
 
   done_times : (v : Bool) (m : MasterModel W) → Times W m → Times W (who W (done_if W v m))
-  done_times true m t = record { low_from = t.low_from; low_to = t.low_to; high_from = t.high_from; high_to = t.high_to }
-  done_times false m t = t
+  done_times v m h = grind arith
 
   pub timed_finished : (cs : List (Cell W)) → Timed W cs → Timed W (finished W cs)
   timed_finished [] t = tt
@@ -37,8 +35,7 @@ module _ (W : Script) where
   alive_advance b (live m p ∷ cs) = refl
 
   if_some : (t : Symbol → Bool) (v : Bool) (m : MasterModel W) (p : W.Cursor) (cs : List (Cell W)) → some W t (stay_if W v m p ∷ cs) ≡ ((v && t (W.symbol p)) || some W t cs)
-  if_some t true m p cs = refl
-  if_some t false m p cs = refl
+  if_some t v m p cs = grind arith
 
   pub some_stay : (t : Symbol → Bool) (n : ℕ) (cs : List (Cell W)) → some W t (stay W n cs) ≡ some W (λ x. eqb (rank x) n && t x) cs
   some_stay t n [] = refl
@@ -59,6 +56,6 @@ module _ (W : Script) where
       (least_below W n cs (omega arith)))
 
   pub alive_least : (cs : List (Cell W)) → alive W cs ≡ true → least W cs ≤ 4
-  alive_least [] h = let z : ◌≡◌ {A = ℕ} 0 1 = cc in omega arith
+  alive_least [] h = cc
   alive_least (out m ∷ cs) h = alive_least cs h
   alive_least (live m p ∷ cs) h = omega (arith, rank_top (W.symbol p))

@@ -37,19 +37,19 @@ asked_to None h b = omega arith
 asked_to (Some c) h b = b
 
 high_no : SteadyHigh ≡ Stop → ⊥
-high_no h = let z : ◌≡◌ {A = ℕ} 0 1 = cc in omega arith
+high_no h = cc
 
 low_no : SteadyLow ≡ Stop → ⊥
-low_no h = let z : ◌≡◌ {A = ℕ} 0 1 = cc in omega arith
+low_no h = cc
 
 start_no : Start ≡ Stop → ⊥
-start_no h = let z : ◌≡◌ {A = ℕ} 0 1 = cc in omega arith
+start_no h = cc
 
 fall_no : Fall ≡ Stop → ⊥
-fall_no h = let z : ◌≡◌ {A = ℕ} 0 1 = cc in omega arith
+fall_no h = cc
 
 rise_no : (b : Bool) → Rise b ≡ Stop → ⊥
-rise_no b h = let z : ◌≡◌ {A = ℕ} 0 1 = cc in omega arith
+rise_no b h = cc
 
 steady : (d : Bool) → event (lines true d) (lines true d) ≡ SteadyHigh
 steady true = refl
@@ -75,7 +75,7 @@ late_new n x false g h = elim (cases_lt n 2) [
   | inl z ↦ grind (arith, tells)
   | inr z ↦ elim (cases_lt 2 n) [
     | inl y ↦ grind (arith, tells)
-    | inr y ↦ let e : n ≡ 2 = omega arith in let f = g e in let c : ◌≡◌ {A = ℕ} 0 1 = cc in absurd (omega arith)
+    | inr y ↦ let e : n ≡ 2 = omega arith in let f = g e in cc
   ]
 ]
 
@@ -135,13 +135,13 @@ module _ (W : Script) where
 module _ (D : Side) where
   -- who is lost at the rise does not show the least symbol
   early_behind : (x : Symbol) (s : D.S) (b : Bool) → early_lost b x ≡ true → heard D x s ≡ b → ⊥
-  early_behind symbol.Zero s b h e = let z : ◌≡◌ {A = ℕ} 0 1 = cc in omega arith
-  early_behind symbol.Listen s b h e = let z : ◌≡◌ {A = ℕ} 0 1 = cc in omega arith
-  early_behind symbol.Stop s b h e = let z : ◌≡◌ {A = ℕ} 0 1 = cc in omega arith
-  early_behind symbol.One s true h e = let z : ◌≡◌ {A = ℕ} 0 1 = cc in omega arith
-  early_behind symbol.One s false h e = let z : ◌≡◌ {A = ℕ} 0 1 = cc in omega arith
-  early_behind symbol.RepeatedStart s true h e = let z : ◌≡◌ {A = ℕ} 0 1 = cc in omega arith
-  early_behind symbol.RepeatedStart s false h e = let z : ◌≡◌ {A = ℕ} 0 1 = cc in omega arith
+  early_behind symbol.Zero s b h e = cc
+  early_behind symbol.Listen s b h e = cc
+  early_behind symbol.Stop s b h e = cc
+  early_behind symbol.One s true h e = cc
+  early_behind symbol.One s false h e = cc
+  early_behind symbol.RepeatedStart s true h e = cc
+  early_behind symbol.RepeatedStart s false h e = cc
 
 module _ (W : Script) (D : Side) (left : W.Cursor → ℕ) (H : Hosts W) (Alike : W.Cursor → W.Cursor → Type 0) (Fits : W.Task → Type 0) (Rest : D.S → Type 0) (laws : Laws W left Alike) (plays : Plays W D left H Alike Fits Rest) where
   -- what a tick to the bus u with the event e and the verdicts ks does; due: how many ticks are then left at the most until an outcome is told
@@ -179,7 +179,7 @@ module _ (W : Script) (D : Side) (left : W.Cursor → ℕ) (H : Hosts W) (Alike 
   }
 
   no_loses : (t : Option (Tasks W)) (s : D.S) (v : List Bool) (w : Watch) (cs : List (Cell W)) (i : ℕ) → get_or (notes W (no_verdict W) cs) i quiet ≡ lost → Loses W D left t s v w i
-  no_loses t s v w cs i h = let a = note_at W (no_verdict W) cs i h in let b : ◌≡◌ {A = VerdictModel W} quiet lost = a.2 in let z : ◌≡◌ {A = ℕ} 0 1 = cc in absurd (omega arith)
+  no_loses t s v w cs i h = let a = note_at W (no_verdict W) cs i h in let b : ◌≡◌ {A = VerdictModel W} quiet lost = a.2 in cc
 
   abbrev pub Real : H.State → Bus W D → Tasks W → D.S → Option (Tasks W) → Watch → ℕ → ℕ → Type 0
   Real hs u os s t w n h = Fine hs os s t w n (tick W D u h) (tick_event W D u) (tick_verdicts W D u)
@@ -262,7 +262,7 @@ module _ (W : Script) (D : Side) (left : W.Cursor → ℕ) (H : Hosts W) (Alike 
     where
       go : (x : Bool) → any_scl W (looks W (opened W e) cs) ≡ x → Real hs (opened_bus W D cs (D.begin s) e) os s (Some l) (watch 0 false v sp) n h
       go false x =
-          let k : e < 255 = elim (cases_lt e 255) [ inl z ↦ z | inr z ↦ let y = opened_ends W cs e g.timed g.living z in let w : ◌≡◌ {A = ℕ} 0 1 = cc in absurd (omega arith) ] in
+          let k : e < 255 = elim (cases_lt e 255) [ inl z ↦ z | inr z ↦ let y = opened_ends W cs e g.timed g.living z in cc ] in
           plain hs (opened_bus W D cs (D.begin s) e) cs os s (Some l) (Some l) (watch 0 false v sp) (watch 0 false v sp) n (n - 1) h (opened_bus W D cs (D.begin s) (e + 1)) SteadyHigh g.armed
           (opened_stays W D cs (D.begin s) e h g.timed g.living x) refl (opened_quiet W e cs) refl refl high_no (ap (λ x. watch 0 false x sp) (marks_none W v cs)) (inl (omega arith))
           (begun (opened_bus W D cs (D.begin s) (e + 1)) os s l v sp cs (e + 1) (n - 1) refl (omega arith) (omega arith) m g r y)
@@ -341,7 +341,7 @@ module _ (W : Script) (D : Side) (left : W.Cursor → ℕ) (H : Hosts W) (Alike 
 
       go : (x : Bool) → any_scl W (looks W (settled W e) cs) ≡ x → Real hs (settled_bus W D d c cs s e) os s0 (Some l) (watch (suc k) true v sp) n h
       go false x =
-          let k' : e < 255 = elim (cases_lt e 255) [ inl z ↦ z | inr z ↦ let y = settled_ends W cs e g.timed g.living z in let w : ◌≡◌ {A = ℕ} 0 1 = cc in absurd (omega arith) ] in
+          let k' : e < 255 = elim (cases_lt e 255) [ inl z ↦ z | inr z ↦ let y = settled_ends W cs e g.timed g.living z in cc ] in
           let rr = some_r in
           plain hs (settled_bus W D d c cs s e) cs os s0 (Some l) (Some l) (watch (suc k) true v sp) (watch (suc k) true v sp) n (n - 1) h (settled_bus W D d c cs s (e + 1)) SteadyHigh g.armed
           (settled_stays W D d c cs s e h g.timed j x) (steady d) (ap (λ ev. verdicts W (looks W (settled W e) cs) (shown ev (counted c ev) false)) (steady d) ∙ settled_quiet W e cs) refl refl

@@ -1,8 +1,7 @@
 -- The tick of the stop, by the cells: who is told, who stays armed, and that these are whom the book tells.
-use Rattle.std.proofs.Common.{◌≡◌, ℕ, zero, suc, ◌+◌, ◌≤◌, min, Bool, true, false, cond, not, ◌&&◌, eqb, ◌⊎◌, List, [], ◌∷◌, get_or, is_some, Some, None, Option, sym, refl, ap, ◌∙◌, ap₂, inl, inr, arith}
+use Rattle.std.proofs.Common.{◌≡◌, ℕ, zero, suc, ◌+◌, ◌≤◌, min, Bool, true, false, cond, not, ◌&&◌, eqb, ◌⊎◌, List, [], ◌∷◌, get_or, is_some, Some, None, Option, sym, refl, ap, ◌∙◌, ap₂, arith}
 use Rattle.std.proofs.lemmas.Bool.{eqb-true, eq-eqb, ne_eqb}
 use Rattle.master.specs.declared.symbol.Symbol.{Symbol}
-use Rattle.master.specs.declared.symbol.Symbol.TheVariants.{Zero, One, Listen, RepeatedStart, Stop}
 use Rattle.master.specs.Masters.{MasterModel}
 use Rattle.master.specs.Scripts.{Script}
 use Rattle.law.proofs.Sides.{Side, heard}
@@ -16,18 +15,13 @@ use Rattle.law.proofs.Law.Contests.{stop_wins, stop_names}
 
 count_one : {A B : Type 0} (v : Bool) (a : Option A) (o : B) (l os : List (Option A)) (ts : List (Option B)) → is_some a ≡ true → count os + count ts ≡ count l →
     count (disarm_one a (cond v (Some o) None) ∷ os) + count (cond v (Some o) None ∷ ts) ≡ count (a ∷ l)
-count_one v None o l os ts h e = let z : ◌≡◌ {A = ℕ} 0 1 = cc in absurd (omega arith)
-count_one true (Some q) o l os ts h e = omega arith
-count_one false (Some q) o l os ts h e = omega arith
+count_one v a o l os ts h k = grind arith
 
 count_out : {A B : Type 0} (a : Option A) (l os : List (Option A)) (ts : List (Option B)) → count os + count ts ≡ count l → count (a ∷ os) + count ts ≡ count (a ∷ l)
-count_out None l os ts e = e
-count_out (Some q) l os ts e = omega arith
+count_out a l os ts h = grind arith
 
 told_one : {B : Type 0} (v : Bool) (o : B) (ts : List (Option B)) → (v ≡ true) ⊎ (1 ≤ count ts) → 1 ≤ count (cond v (Some o) None ∷ ts)
-told_one true o ts h = omega arith
-told_one false o ts (inl h) = let z : ◌≡◌ {A = ℕ} 0 1 = cc in absurd (omega arith)
-told_one false o ts (inr h) = h
+told_one v o ts h = grind arith
 
 told_is : {B : Type 0} (v : Bool) (o : B) → is_some (cond v (Some o) None) ≡ v
 told_is true o = refl
@@ -38,11 +32,10 @@ least_one a b h = grind arith
 
 -- who is armed after an outcome was told was so before, and was told nothing
 disarmed_one : {A B : Type 0} (o : Option A) (t : Option B) (p : A) → disarm_one o t ≡ Some p → (o ≡ Some p) × (t ≡ None)
-disarmed_one o None p e = (e, refl)
-disarmed_one o (Some t) p e = let z : ◌≡◌ {A = ℕ} 0 1 = cc in absurd (omega arith)
+disarmed_one o t p h = grind arith
 
 pub disarmed : {A B : Type 0} (os : List (Option A)) (ts : List (Option B)) (j : ℕ) (p : A) → at (disarm os ts) j ≡ Some p → (at os j ≡ Some p) × (at ts j ≡ None)
-disarmed [] ts j p e = let z : ◌≡◌ {A = ℕ} 0 1 = cc in absurd (omega arith)
+disarmed [] ts j p e = cc
 disarmed (o ∷ os) [] j p e = (e, refl)
 disarmed (o ∷ os) (t ∷ ts) zero p e = disarmed_one o t p e
 disarmed (o ∷ os) (t ∷ ts) (suc j) p e = disarmed os ts j p e
@@ -58,11 +51,7 @@ module _ (W : Script) where
   ending (o ∷ os) = names o ∷ ending os
 
   tell_end : (p : W.Cursor) (x : Symbol) → telling W (late W 1 x p) ≡ cond (eqb (rank x) 1) (Some (W.outcome p)) None
-  tell_end p Zero = refl
-  tell_end p One = refl
-  tell_end p Listen = refl
-  tell_end p RepeatedStart = refl
-  tell_end p Stop = refl
+  tell_end p x = grind arith
 
   pub tells_end : (cs : List (Cell W)) → tellings W (notes W (late W 1) cs) ≡ ending (cursors W cs)
   tells_end [] = refl
@@ -71,8 +60,7 @@ module _ (W : Script) where
 
   done_armed : (v : Bool) (m : MasterModel W) (o : W.Outcome) (cs : List (Cell W)) (l : Tasks W) → cell_armeds W cs ≡ l →
       cell_armeds W (done_if W v m ∷ cs) ≡ disarm_one (task_of W m.arming) (cond v (Some o) None) ∷ l
-  done_armed true m o cs l e = ap (λ z. None ∷ z) e
-  done_armed false m o cs l e = ap (λ z. task_of W m.arming ∷ z) e
+  done_armed v m o cs l h = grind arith
 
   pub armeds_finished : (cs : List (Cell W)) → cell_armeds W (finished W cs) ≡ disarm (cell_armeds W cs) (ending (cursors W cs))
   armeds_finished [] = refl
@@ -92,21 +80,15 @@ module _ (W : Script) where
   somebody_told (live m p ∷ cs) h = go (least_one (rank (W.symbol p)) (least W cs) h) (somebody_told cs)
     where
       go : (rank (W.symbol p) ≡ 1) ⊎ (least W cs ≡ 1) → (least W cs ≡ 1 → 1 ≤ count (ending (cursors W cs))) → 1 ≤ count (ending (cursors W (live m p ∷ cs)))
-      go (inl e) ih = told_one (eqb (rank (W.symbol p)) 1) (W.outcome p) (ending (cursors W cs)) (inl (eq-eqb (rank (W.symbol p)) 1 e))
-      go (inr e) ih = told_one (eqb (rank (W.symbol p)) 1) (W.outcome p) (ending (cursors W cs)) (inr (ih e))
+      go h k = grind arith
 
   -- told are the contenders never marked
   told_unmarked : (a : Option W.Task) (p : W.Cursor) (x : Symbol) → is_some a ≡ true → (1 ≤ rank x) × (rank x ≤ 3) → is_some (cond (eqb (rank x) 1) (Some (W.outcome p)) None) ≡ not (is_some a && early_lost false x)
-  told_unmarked None p x h q = let z : ◌≡◌ {A = ℕ} 0 1 = cc in absurd (omega arith)
-  told_unmarked (Some a) p Zero h q = absurd (omega arith)
-  told_unmarked (Some a) p One h q = refl
-  told_unmarked (Some a) p Listen h q = absurd (omega arith)
-  told_unmarked (Some a) p RepeatedStart h q = refl
-  told_unmarked (Some a) p Stop h q = refl
+  told_unmarked a p x h k = grind arith
 
   pub tells_unmarked : (l : Tasks W) (cs : List (Cell W)) → Within W l cs → Every W (λ x. (1 ≤ rank x) × (rank x ≤ 3)) cs → (i : ℕ) (q : W.Task) → at l i ≡ Some q →
       is_some (at (ending (cursors W cs)) i) ≡ not (get_or (marked W (early_lost false) l cs) i false)
-  tells_unmarked [] cs h e i q a = let z : ◌≡◌ {A = ℕ} 0 1 = cc in absurd (omega arith)
+  tells_unmarked [] cs h e i q a = cc
   tells_unmarked (o ∷ l) [] h e i q a = absurd h
   tells_unmarked (o ∷ l) (out m ∷ cs) h e zero q a = let z : is_some o ≡ true = ap is_some a in ap (λ v. not (v && true)) (sym z)
   tells_unmarked (o ∷ l) (live m p ∷ cs) h e zero q a = told_unmarked o p (W.symbol p) h.0 e.0
@@ -122,13 +104,13 @@ module _ (W : Script) (D : Side) (left : W.Cursor → ℕ) where
   outcomes_are q s [] (c ∷ cs) h each = absurd h
   outcomes_are q s (o ∷ l) [] h each = absurd h
   outcomes_are q s (None ∷ l) (out m ∷ cs) h each = ap (λ z. None ∷ z) (outcomes_are q s l cs h (λ i p e. each (suc i) p e))
-  outcomes_are q s (None ∷ l) (live m p ∷ cs) h each = let y = h.0 in let z : ◌≡◌ {A = ℕ} 0 1 = cc in absurd (omega arith)
+  outcomes_are q s (None ∷ l) (live m p ∷ cs) h each = let y = h.0 in cc
   outcomes_are q s (Some p ∷ l) (out m ∷ cs) h each = ap₂ ◌∷◌ (each 0 p refl) (outcomes_are q s l cs h (λ i p e. each (suc i) p e))
   outcomes_are q s (Some p ∷ l) (live m r ∷ cs) h each = ap₂ ◌∷◌ (each 0 p refl) (outcomes_are q s l cs h.1 (λ i p e. each (suc i) p e))
 
   pub outcome_at : (q : Option W.Task) (s : D.S) (l : Tasks W) (i : ℕ) (p : W.Task) → at l i ≡ Some p → is_some (at (outcomes W D left l q s) i) ≡ wins W D left p q s
-  outcome_at q s [] i p e = let z : ◌≡◌ {A = ℕ} 0 1 = cc in absurd (omega arith)
-  outcome_at q s (None ∷ l) zero p e = let z : ◌≡◌ {A = ℕ} 0 1 = cc in absurd (omega arith)
+  outcome_at q s [] i p e = cc
+  outcome_at q s (None ∷ l) zero p e = cc
   outcome_at q s (Some r ∷ l) zero p e = let z : r ≡ p = cc in told_is (wins W D left r q s) (task_outcome W D left r s) ∙ ap (λ x. wins W D left x q s) z
   outcome_at q s (None ∷ l) (suc i) p e = outcome_at q s l i p e
   outcome_at q s (Some r ∷ l) (suc i) p e = outcome_at q s l i p e
@@ -157,5 +139,5 @@ module _ (W : Script) (D : Side) (left : W.Cursor → ℕ) (Alike : W.Cursor →
                   ∙ sym (ap (λ z. cond z (Some (task_outcome W D left q s0)) None) (wins_if true e))
               two false e =
                   let g : eqb (rank (W.symbol p)) 1 ≡ false = ne_eqb (rank (W.symbol p)) 1 (λ z. let y : true ≡ false = sym
-                  (eq-eqb (rank (lead W (cursors W cs))) (rank (W.symbol p)) (stops ∙ sym z)) ∙ e in let c : ◌≡◌ {A = ℕ} 0 1 = cc in omega arith) in
+                  (eq-eqb (rank (lead W (cursors W cs))) (rank (W.symbol p)) (stops ∙ sym z)) ∙ e in cc) in
                   ap (λ z. cond z (Some (W.outcome p)) None) g ∙ sym (ap (λ z. cond z (Some (task_outcome W D left q s0)) None) (wins_if false e))

@@ -1,5 +1,8 @@
 -- Every use of a bus: the bus with its hosts, the book beside it, and what a watcher of the ticks notes.
-use Rattle.std.proofs.Common.{◌≡◌, ℕ, zero, suc, ◌+◌, ◌<◌, ◌≤◌, Bool, true, false, cond, not, ◌&&◌, ◌||◌, eqb, List, [], ◌∷◌, ◌++◌, get_or, is_some, Some, None, Ok, Err, Option, Result}
+use Rattle.std.proofs.Common.{◌≡◌, ℕ, zero, suc, ◌+◌, ◌<◌, ◌≤◌, Bool, true, false, cond, not, ◌||◌, eqb, List, [], ◌∷◌, ◌++◌, get_or, is_some, Some, None, Ok, Err, Option, Result, map}
+use Rattle.std.specs.Cmp.Lexicographic.{pointwise}
+use Rattle.std.specs.List.{list_any}
+use Rattle.std.specs.Option.{option_map}
 use Rattle.wire.specs.declared.wire.Event.{Event}
 use Rattle.wire.specs.declared.wire.Event.TheVariants.{Rise, Fall, Start, Stop, SteadyHigh, SteadyLow}
 use Rattle.master.specs.Masters.{ArmingModel, unarmed, armed, MasterModel, VerdictModel, quiet, lost, told, new_master, arm_master}
@@ -33,10 +36,7 @@ accepted (Ok x) = 1
 accepted (Err n) = 0
 
 abbrev pub same : List ℕ → List ℕ → Bool
-same [] [] = true
-same [] (u ∷ us) = false
-same (t ∷ ts) [] = false
-same (t ∷ ts) (u ∷ us) = eqb t u && same ts us
+same ts us = pointwise eqb ts us
 
 -- how many are there
 abbrev pub count : {A : Type 0} → List (Option A) → ℕ
@@ -45,8 +45,7 @@ count (None ∷ l) = count l
 count (Some a ∷ l) = suc (count l)
 
 abbrev pub any : {A : Type 0} → List (Option A) → Bool
-any [] = false
-any (o ∷ l) = is_some o || any l
+any l = list_any is_some l
 
 -- arm, by the table: no such master, armed already, nothing wanted
 abbrev pub answer_if : {A : Type 0} → Option A → Option A → Answer
@@ -71,8 +70,7 @@ arm_book (o ∷ os) (w ∷ ws) zero = armed_if o w ∷ os
 arm_book (o ∷ os) (w ∷ ws) (suc i) = o ∷ arm_book os ws i
 
 abbrev pub nobody : {A B : Type 0} → List (Option A) → List (Option B)
-nobody [] = []
-nobody (o ∷ os) = None ∷ nobody os
+nobody os = map (λ o. None) os
 
 abbrev pub disarm_one : {A B : Type 0} → Option A → Option B → Option A
 disarm_one o None = o
@@ -93,8 +91,7 @@ module _ (W : Script) where
   task_of (armed t) = Some t
 
   abbrev pub armeds : List (MasterModel W) → Tasks W
-  armeds [] = []
-  armeds (m ∷ ms) = task_of m.arming ∷ armeds ms
+  armeds ms = map (λ m. task_of m.arming) ms
 
   -- master i pulls a line
   abbrev pub pulling : List (MasterModel W) → ℕ → Bool
@@ -113,8 +110,7 @@ module _ (W : Script) where
   telling (told o) = Some o
 
   abbrev pub tellings : List (VerdictModel W) → List (Option W.Outcome)
-  tellings [] = []
-  tellings (k ∷ ks) = telling k ∷ tellings ks
+  tellings ks = map telling ks
 
   abbrev pub arm_masters : List (MasterModel W) → Tasks W → ℕ → List (MasterModel W)
   arm_masters [] ws i = []
@@ -130,12 +126,10 @@ module _ (W : Script) where
 
   -- where each contender begins
   abbrev pub begin_one : Option W.Task → Option W.Cursor
-  begin_one None = None
-  begin_one (Some t) = Some (W.begin t)
+  begin_one o = option_map W.begin o
 
   abbrev pub begins : Tasks W → List (Option W.Cursor)
-  begins [] = []
-  begins (o ∷ l) = begin_one o ∷ begins l
+  begins l = map begin_one l
 
 module _ (W : Script) (D : Side) (left : W.Cursor → ℕ) where
   -- a task carried alone: its string, its outcome and the side after it
@@ -254,8 +248,7 @@ restarted zero z = z
 restarted (suc n) z = spell None (z.letters ++ (2 ∷ []))
 
 abbrev pub falses : {A : Type 0} → List (Option A) → List Bool
-falses [] = []
-falses (o ∷ os) = false ∷ falses os
+falses os = map (λ o. false) os
 
 module _ (W : Script) where
   abbrev pub marks_too : List Bool → List (VerdictModel W) → List Bool

@@ -13,8 +13,8 @@ use Rattle.law.proofs.Law.Fates.{not_end, common_same, text, Fate, next_live, ne
 
 pub lexb_anti : (t u : List ℕ) → lexb t u ≡ true → lexb u t ≡ true → t ≡ u
 lexb_anti [] [] h k = refl
-lexb_anti [] (b ∷ u) h k = let z : ◌≡◌ {A = ℕ} 0 1 = cc in absurd (omega arith)
-lexb_anti (a ∷ t) [] h k = let z : ◌≡◌ {A = ℕ} 0 1 = cc in absurd (omega arith)
+lexb_anti [] (b ∷ u) h k = cc
+lexb_anti (a ∷ t) [] h k = cc
 lexb_anti (a ∷ t) (b ∷ u) h k = heads (lexb_anti t u) (eqb a b) (eqb b a) refl refl h k
   where
     heads : (lexb t u ≡ true → lexb u t ≡ true → t ≡ u) → (x y : Bool) → eqb a b ≡ x → eqb b a ≡ y → cond x (lexb t u) (ltb a b) ≡ true → cond y (lexb u t) (ltb b a) ≡ true → (a ∷ t) ≡ (b ∷ u)
@@ -29,7 +29,7 @@ common_whole (a ∷ t) = common_same a t t ∙ ap suc (common_whole t)
 
 first : (t u : List ℕ) → lexb t u ≡ true → common t u < length t → First t u (common t u)
 first [] u h d = absurd (omega arith)
-first (a ∷ t) [] h d = let z : ◌≡◌ {A = ℕ} 0 1 = cc in absurd (omega arith)
+first (a ∷ t) [] h d = cc
 first (a ∷ t) (b ∷ u) h d = heads (first t u) (eqb a b) refl h d
   where
     heads : (lexb t u ≡ true → common t u < length t → First t u (common t u)) → (x : Bool) → eqb a b ≡ x → cond x (lexb t u) (ltb a b) ≡ true →
@@ -137,8 +137,8 @@ module _ (W : Script) (D : Side) (left : W.Cursor → ℕ) (Alike : W.Cursor →
   most (Some p ∷ l) = left p + most l
 
   small : (l : List (Option W.Cursor)) (i : ℕ) (p : W.Cursor) → at l i ≡ Some p → left p ≤ most l
-  small [] i p e = let z : ◌≡◌ {A = ℕ} 0 1 = cc in absurd (omega arith)
-  small (None ∷ l) zero p e = let z : ◌≡◌ {A = ℕ} 0 1 = cc in absurd (omega arith)
+  small [] i p e = cc
+  small (None ∷ l) zero p e = cc
   small (None ∷ l) (suc i) p e = small l i p e
   small (Some q ∷ l) zero p e = let z : q ≡ p = cc in rw (← z) (omega arith)
   small (Some q ∷ l) (suc i) p e = omega (arith, small l i p e)

@@ -1,5 +1,5 @@
 -- The making of a bus, and the law over every use from it.
-use Rattle.std.proofs.Common.{◌≡◌, ℕ, max, false, List, [], ◌∷◌, None, sym, refl, ap, ◌∙◌, subst, arith}
+use Rattle.std.proofs.Common.{◌≡◌, ℕ, max, false, List, [], ◌∷◌, None, sym, refl, ap, ◌∙◌, subst}
 use Rattle.device.specs.Behaviours.{Behaviour}
 use Rattle.host.specs.Behaviours.{HostBehaviour}
 use Rattle.law.specs.Banks.{Bank, each, listed}
@@ -62,7 +62,7 @@ module _ (hs : List HostBehaviour) (ds : List Behaviour) where
   begins_good : (ms : Bank Served hs) (ps : Bank PortModel ds) → Good hs ds (beginning hs ds ms ps)
   begins_good ms ps = record {
     let_go = λ e. no_holds ds ps;
-    sound = record { kept = new_kept hs ms; contended = λ e. let z : ◌≡◌ {A = ℕ} 0 1 = cc in absurd (omega arith) };
+    sound = record { kept = new_kept hs ms; contended = λ e. cc };
   }
 
   abbrev rest : Bank PortModel ds → Bank PortModel ds

@@ -1,5 +1,5 @@
 -- The turn book as the book of the law, and that both go the same way at every call and event.
-use Rattle.std.proofs.Common.{◌≡◌, ℕ, zero, suc, Bool, true, false, cond, ◌||◌, List, [], ◌∷◌, is_some, Some, None, Option, sym, refl, ap, ◌∙◌, subst, ap₂, arith}
+use Rattle.std.proofs.Common.{◌≡◌, ℕ, zero, suc, Bool, true, false, cond, ◌||◌, List, [], ◌∷◌, is_some, Some, None, Option, sym, refl, ap, ◌∙◌, ap₂, arith}
 use Rattle.std.specs.Option.{option_map}
 use Rattle.transfer.specs.declared.draft.Transfer.{Transfer}
 use Rattle.transfer.specs.Drafts.{TransferModel, transfer_model}
@@ -8,8 +8,8 @@ use Rattle.device.specs.Behaviours.{Behaviour}
 use Rattle.host.specs.Behaviours.{HostBehaviour}
 use Rattle.wire.specs.declared.wire.Event.{Event}
 use Rattle.wire.specs.declared.wire.Event.TheVariants.{Rise, Fall, Start, Stop, SteadyHigh, SteadyLow}
-use Rattle.law.specs.Banks.{Bank, each, listed}
-use Rattle.law.specs.Books.{any_true, Standing, unarmed, armed, is_armed, Entry, standing_of, entry_arms, enters, wanted_if, contends_with, leaves, entry_arm_nth, leave_all, least, told_all, devices_after, Book, book_arm, contests, opens, told_at_stop, closes, book_tells, book_after}
+use Rattle.law.specs.Banks.{Bank, each, listed, any_true}
+use Rattle.law.specs.Books.{Standing, unarmed, armed, is_armed, Entry, standing_of, entry_arms, enters, wanted_if, contends_with, leaves, entry_arm_nth, leave_all, least, told_all, devices_after, Book, book_arm, contests, opens, told_at_stop, closes, book_tells, book_after}
 use Rattle.law.specs.Carrying.{Placed, carried}
 use Rattle.port.specs.Ports.{PortModel}
 use Rattle.master.specs.Scripts.{transfers}
@@ -52,10 +52,7 @@ Kept (h ∷ hs) es = WantsIf es.0.standing (h.want es.0.meaning) × Kept hs es.1
 -- an arm
 arms_one : (h : HostBehaviour) (x : Entry h) (s : Standing) (w : Option Transfer) → x.standing ≡ s → h.want x.meaning ≡ w →
     task_of h (entry_arms h x s w).1 ≡ armed_if (wanted_if h (is_armed s) w) (option_map transfer_model w)
-arms_one h x armed (Some t) e f = ap₂ (λ a b. wanted_if h (is_armed a) b) e f
-arms_one h x armed None e f = ap₂ (λ a b. wanted_if h (is_armed a) b) e f
-arms_one h x unarmed None e f = ap₂ (λ a b. wanted_if h (is_armed a) b) e f
-arms_one h x unarmed (Some t) e f = ap (λ b. option_map transfer_model b) f
+arms_one h x s w k e = grind arith
 
 pub arm_tasks : (hs : List HostBehaviour) (es : Bank Entry hs) (n : ℕ) → tasks hs (entry_arm_nth hs es n).1 ≡ arm_book (tasks hs es) (wants_of hs (meanings hs es)) n
 arm_tasks [] es n = refl
@@ -63,14 +60,10 @@ arm_tasks (h ∷ hs) es zero = ap (λ o. o ∷ tasks hs es.1) (arms_one h es.0 e
 arm_tasks (h ∷ hs) es (suc n) = ap (λ l. task_of h es.0 ∷ l) (arm_tasks hs es.1 n)
 
 arms_meaning : (h : HostBehaviour) (x : Entry h) (s : Standing) (w : Option Transfer) → (entry_arms h x s w).1.meaning ≡ x.meaning
-arms_meaning h x armed w = refl
-arms_meaning h x unarmed None = refl
-arms_meaning h x unarmed (Some t) = refl
+arms_meaning h x s w = grind arith
 
 arms_contends : (h : HostBehaviour) (x : Entry h) (s : Standing) (w : Option Transfer) → contends_with h (entry_arms h x s w).1 ≡ contends_with h x
-arms_contends h x armed w = refl
-arms_contends h x unarmed None = refl
-arms_contends h x unarmed (Some t) = refl
+arms_contends h x s w = grind arith
 
 pub arm_meanings : (hs : List HostBehaviour) (es : Bank Entry hs) (n : ℕ) → meanings hs (entry_arm_nth hs es n).1 ≡ meanings hs es
 arm_meanings [] es n = refl
@@ -83,10 +76,7 @@ arm_contenders (h ∷ hs) es zero = ap (λ o. o ∷ contenders hs es.1) (arms_co
 arm_contenders (h ∷ hs) es (suc n) = ap (λ l. contends_with h es.0 ∷ l) (arm_contenders hs es.1 n)
 
 answers_one : (h : HostBehaviour) (x : Entry h) (s : Standing) (w : Option Transfer) → WantsIf s w → (entry_arms h x s w).0 ≡ answer_if (wanted_if h (is_armed s) w) (option_map transfer_model w)
-answers_one h x armed None k = let z : ◌≡◌ {A = ℕ} 0 1 = cc in absurd (omega arith)
-answers_one h x armed (Some t) k = refl
-answers_one h x unarmed None k = refl
-answers_one h x unarmed (Some t) k = refl
+answers_one h x s w k = grind arith
 
 pub arm_answers : (hs : List HostBehaviour) (es : Bank Entry hs) (n : ℕ) → Kept hs es → (entry_arm_nth hs es n).0 ≡ answer (tasks hs es) (wants_of hs (meanings hs es)) n
 arm_answers [] es n k = refl
@@ -95,9 +85,7 @@ arm_answers (h ∷ hs) es (suc n) k = arm_answers hs es.1 n k.1
 
 kept_arms : (h : HostBehaviour) (x : Entry h) (s : Standing) (w : Option Transfer) → x.standing ≡ s → h.want x.meaning ≡ w → WantsIf s w →
     WantsIf (entry_arms h x s w).1.standing (h.want (entry_arms h x s w).1.meaning)
-kept_arms h x armed w e f k = subst (λ a. WantsIf a (h.want x.meaning)) (sym e) (ap is_some f ∙ k)
-kept_arms h x unarmed None e f k = subst (λ a. WantsIf a (h.want x.meaning)) (sym e) tt
-kept_arms h x unarmed (Some t) e f k = ap is_some f
+kept_arms h x s w k e d = grind arith
 
 pub arm_kept : (hs : List HostBehaviour) (es : Bank Entry hs) (n : ℕ) → Kept hs es → Kept hs (entry_arm_nth hs es n).1
 arm_kept [] es n k = tt
@@ -109,9 +97,7 @@ pub any_armed : (hs : List HostBehaviour) (es : Bank Entry hs) → Kept hs es �
 any_armed [] es k = refl
 any_armed (h ∷ hs) es k = ap₂ ◌||◌ (some_if h es.0.standing (h.want es.0.meaning) k.0) (any_armed hs es.1 k.1) where
   some_if : (g : HostBehaviour) (s : Standing) (w : Option Transfer) → WantsIf s w → is_some (wanted_if g (is_armed s) w) ≡ is_armed s
-  some_if g unarmed w k = refl
-  some_if g armed None k = k
-  some_if g armed (Some t) k = refl
+  some_if g s w h = grind arith
 
 enter_tasks : (hs : List HostBehaviour) (es : Bank Entry hs) → tasks hs (each enters hs es) ≡ tasks hs es
 enter_tasks [] es = refl
@@ -131,8 +117,7 @@ enter_kept (h ∷ hs) es k = (k.0, enter_kept hs es.1 k.1)
 
 -- a turn closes
 leave_meaning : (h : HostBehaviour) (x : Entry h) (t : Option OutcomeModel) → (leaves h x t).meaning ≡ hears_one h x.meaning t
-leave_meaning h x None = refl
-leave_meaning h x (Some o) = refl
+leave_meaning h x t = grind arith
 
 leave_meanings : (hs : List HostBehaviour) (es : Bank Entry hs) (ts : List (Option OutcomeModel)) → meanings hs (leave_all hs es ts) ≡ hears_all hs (meanings hs es) ts
 leave_meanings [] es ts = refl
@@ -140,8 +125,7 @@ leave_meanings (h ∷ hs) es [] = ap (λ r. (es.0.meaning, r)) (leave_meanings h
 leave_meanings (h ∷ hs) es (t ∷ ts) = λ i. (leave_meaning h es.0 t i, leave_meanings hs es.1 ts i)
 
 leave_task : (h : HostBehaviour) (x : Entry h) (t : Option OutcomeModel) → task_of h (leaves h x t) ≡ disarm_one (task_of h x) t
-leave_task h x None = refl
-leave_task h x (Some o) = refl
+leave_task h x t = grind arith
 
 leave_no_tasks : (hs : List HostBehaviour) (es : Bank Entry hs) → tasks hs (leave_all hs es []) ≡ tasks hs es
 leave_no_tasks [] es = refl
@@ -177,7 +161,7 @@ nobody_is [] es = refl
 nobody_is (h ∷ hs) es = ap (λ l. None ∷ l) (nobody_is hs es.1)
 
 somebody_leads : (ds : List Behaviour) (d : Bank Placed ds) (l : List (Option TransferModel)) → any l ≡ true → (q : TransferModel) × (lead ds d l ≡ Some q)
-somebody_leads ds d [] h = let z : ◌≡◌ {A = ℕ} 0 1 = cc in absurd (omega arith)
+somebody_leads ds d [] h = cc
 somebody_leads ds d (None ∷ l) h = somebody_leads ds d l h
 somebody_leads ds d (Some t ∷ l) h = (_, refl)
 
@@ -276,7 +260,7 @@ module _ (hs : List HostBehaviour) (ds : List Behaviour) where
   fed_closed es d false k = k
   fed_closed es d true k = record {
     kept = leave_kept hs es (told_at_stop hs ds (of_parts es d true) true) k.kept;
-    contended = λ t. let z : ◌≡◌ {A = ℕ} 0 1 = cc in absurd (omega arith);
+    contended = λ t. cc;
   }
 
   pub fed_sound : (b : Book hs ds) (e : Event) → Sound b → Sound (book_after hs ds b e)

@@ -1,5 +1,6 @@
 -- Who leads by the letters of carried alone is who leads slot by slot.
-use Rattle.std.proofs.Common.{◌≡◌, ℕ, Bool, true, false, cond, ◌&&◌, eqb, ltb, List, [], ◌∷◌, map, Some, None, Option, sym, refl, ap, ◌∙◌, subst, ap₂, le_refl}
+use Rattle.std.proofs.Common.{◌≡◌, ℕ, Bool, cond, eqb, ltb, List, [], ◌∷◌, map, Some, None, Option, sym, refl, ap, ◌∙◌, subst, ap₂, le_refl, arith}
+use Rattle.std.specs.Cmp.Derive.Mapped.{pointwise-map}
 use Rattle.std.specs.Option.{option_map}
 use Rattle.transfer.specs.Drafts.{TransferModel}
 use Rattle.device.specs.Behaviours.{Behaviour}
@@ -25,10 +26,7 @@ lexb_ranks (t ∷ ts) [] = refl
 lexb_ranks (t ∷ ts) (u ∷ us) = ap (λ v. cond (eqb (rank t) (rank u)) v (ltb (rank t) (rank u))) (lexb_ranks ts us)
 
 pub same_ranks : (ts us : List Letter) → same (map rank ts) (map rank us) ≡ same_string ts us
-same_ranks [] [] = refl
-same_ranks [] (u ∷ us) = refl
-same_ranks (t ∷ ts) [] = refl
-same_ranks (t ∷ ts) (u ∷ us) = ap (λ v. eqb (rank t) (rank u) && v) (same_ranks ts us)
+same_ranks ts us = pointwise-map rank eqb ts us
 
 abbrev pub LegalIf : Option TransferModel → Type 0
 LegalIf None = Unit {0}
@@ -46,8 +44,7 @@ module _ (ds : List Behaviour) (d : Bank Placed ds) where
   carry t = carried ds t d
 
   abbrev pub carry_all : List (Option TransferModel) → List (Option (Carried ds))
-  carry_all [] = []
-  carry_all (o ∷ l) = option_map carry o ∷ carry_all l
+  carry_all l = map (option_map carry) l
 
   pub agrees : (t : TransferModel) → Legal t → Agrees ds t d (slots_left (opening_of t))
   agrees t k = carried_alone ds t d (slots_left (opening_of t)) k (le_refl (slots_left (opening_of t)))
@@ -67,13 +64,8 @@ module _ (ds : List Behaviour) (d : Bank Placed ds) where
   abbrev pub lead : List (Option TransferModel) → Option TransferModel
   lead l = leader transfers (ports_side ds) slots_left l side
 
-  cond_legal : (b : Bool) (t u : TransferModel) → Legal t → Legal u → Legal (cond b t u)
-  cond_legal true t u k l = k
-  cond_legal false t u k l = l
-
   pick_legal : (t : TransferModel) (o : Option TransferModel) → Legal t → LegalIf o → Legal (pick transfers (ports_side ds) slots_left t o side)
-  pick_legal t None k l = k
-  pick_legal t (Some u) k l = cond_legal (lexb (text t) (text u)) t u k l
+  pick_legal t o h k = grind arith
 
   pub lead_legal : (l : List (Option TransferModel)) → AllLegal l → LegalIf (lead l)
   lead_legal [] k = tt
@@ -81,8 +73,7 @@ module _ (ds : List Behaviour) (d : Bank Placed ds) where
   lead_legal (Some t ∷ l) k = pick_legal t (lead l) k.0 (lead_legal l k.1)
 
   carry_cond : (b : Bool) (t u : TransferModel) → carry (cond b t u) ≡ cond b (carry t) (carry u)
-  carry_cond true t u = refl
-  carry_cond false t u = refl
+  carry_cond b t u = grind arith
 
   pick_is : (t : TransferModel) (o : Option TransferModel) → Legal t → LegalIf o → carry (pick transfers (ports_side ds) slots_left t o side) ≡ first_of_two ds (carry t) (option_map carry o)
   pick_is t None k l = refl

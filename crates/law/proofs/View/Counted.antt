@@ -1,17 +1,18 @@
 -- Who is armed, who pulls and who is marked, bank by list; and what a run counts.
-use Rattle.std.proofs.Common.{◌≡◌, ℕ, zero, suc, ◌+◌, Bool, true, false, cond, ◌||◌, List, [], ◌∷◌, map, get_or, is_some, Some, None, Option, refl, ap, ap₂, arith}
+use Rattle.std.proofs.lemmas.List.Folds.{fold-map}
+use Rattle.std.proofs.Common.{◌≡◌, ℕ, zero, suc, ◌+◌, Bool, false, cond, ◌||◌, List, [], ◌∷◌, map, get_or, is_some, Option, refl, ap, ap₂, arith, ◌∙◌, sym}
 use Rattle.transfer.specs.declared.draft.Transfer.{Transfer}
 use Rattle.device.specs.Behaviours.{Behaviour}
 use Rattle.host.specs.Behaviours.{HostBehaviour}
 use Rattle.master.specs.declared.mark.Mark.TheVariants.{Quiet, Lost}
 use Rattle.wire.specs.declared.wire.Signal.{Signal}
-use Rattle.law.specs.Banks.{Bank, each, listed}
-use Rattle.law.specs.Books.{any_true, Standing, unarmed, armed, is_armed, Entry, standing_of, wanted_if}
+use Rattle.law.specs.Banks.{Bank, each, listed, any_true}
+use Rattle.law.specs.Books.{Standing, is_armed, Entry, standing_of, wanted_if}
 use Rattle.law.specs.Buses.{Holds, tick_at, told_at, is_at_rest}
 use Rattle.master.specs.Serving.{Served, is_armed as arming_armed, served_armed, served_mark, served_pulls, mark_of}
 use Rattle.law.specs.Carrying.{Placed}
 use Rattle.law.specs.Laws.{how_many_true, Use, ticks_once, run_on, ticks_of_run, placed_at}
-use Rattle.master.specs.Masters.{ArmingModel, unarmed as no_task, armed as a_task, VerdictModel, quiet, lost, told, master_step}
+use Rattle.master.specs.Masters.{ArmingModel, VerdictModel, quiet, lost, master_step}
 use Rattle.port.specs.Ports.{PortModel}
 use Rattle.law.specs.Runs.{how_many, Running, goes_on}
 use Rattle.master.specs.Scripts.{transfers}
@@ -21,40 +22,34 @@ use Rattle.law.proofs.Law.Machine.{verdicts}
 use Rattle.law.proofs.Law.Uses.{any, count, armeds, task_of, pulling}
 use Rattle.law.proofs.View.Booked.{tasks, WantsIf, Kept}
 use Rattle.law.proofs.View.Seen.{masters_of}
+use Rattle.law.proofs.View.Watched.{how_many_is}
 
 abbrev pub somes : {A : Type 0} → List (Option A) → List Bool
 somes l = map is_some l
 
 pub count_somes : {A : Type 0} (l : List (Option A)) → count l ≡ how_many_true (somes l)
-count_somes [] = refl
-count_somes (None ∷ l) = let e = count_somes l in omega arith
-count_somes (Some a ∷ l) = let e = count_somes l in omega arith
+count_somes l = sym (fold-map (λ n v. n + cond v 1 0) is_some 0 l ∙ how_many_is l)
 
 pub any_somes : {A : Type 0} (l : List (Option A)) → any l ≡ any_true (somes l)
 any_somes [] = refl
 any_somes (o ∷ l) = ap (λ v. is_some o || v) (any_somes l)
 
 armed_some : (a : ArmingModel transfers) → is_some (task_of transfers a) ≡ arming_armed a
-armed_some no_task = refl
-armed_some (a_task t) = refl
+armed_some a = grind arith
 
 pub masters_armed : (hs : List HostBehaviour) (ms : Bank Served hs) → somes (armeds transfers (masters_of hs ms)) ≡ listed served_armed hs ms
 masters_armed [] ms = refl
 masters_armed (h ∷ hs) ms = ap₂ ◌∷◌ (armed_some ms.0.master.arming) (masters_armed hs ms.1)
 
 some_if : (h : HostBehaviour) (s : Standing) (w : Option Transfer) → WantsIf s w → is_some (wanted_if h (is_armed s) w) ≡ is_armed s
-some_if h unarmed w k = refl
-some_if h armed None k = k
-some_if h armed (Some t) k = refl
+some_if h s w k = grind arith
 
 pub entries_armed : (hs : List HostBehaviour) (es : Bank Entry hs) → Kept hs es → somes (tasks hs es) ≡ listed standing_of hs es
 entries_armed [] es k = refl
 entries_armed (h ∷ hs) es k = ap₂ ◌∷◌ (some_if h es.0.standing (h.want es.0.meaning) k.0) (entries_armed hs es.1 k.1)
 
 no_pull : (a b : Bool) → (a || b) ≡ false → (a ≡ false) × (b ≡ false)
-no_pull false false e = (refl, refl)
-no_pull false true e = let z : ◌≡◌ {A = ℕ} 0 1 = cc in absurd (omega arith)
-no_pull true b e = let z : ◌≡◌ {A = ℕ} 0 1 = cc in absurd (omega arith)
+no_pull a b h = grind arith
 
 pub pulls_none : (hs : List HostBehaviour) (ms : Bank Served hs) (i : ℕ) → pulling transfers (masters_of hs ms) i ≡ false → get_or (listed served_pulls hs ms) i no_pulls ≡ no_pulls
 pulls_none [] ms i e = refl
@@ -62,12 +57,10 @@ pulls_none (h ∷ hs) ms zero e = let p = no_pull ms.0.master.pulls.scl ms.0.mas
 pulls_none (h ∷ hs) ms (suc i) e = pulls_none hs ms.1 i e
 
 lost_mark : (k : VerdictModel transfers) → mark_of k ≡ Lost → k ≡ lost
-lost_mark quiet e = let z : ◌≡◌ {A = ℕ} 0 1 = cc in absurd (omega arith)
-lost_mark lost e = refl
-lost_mark (told o) e = let z : ◌≡◌ {A = ℕ} 0 1 = cc in absurd (omega arith)
+lost_mark k h = grind arith
 
 pub lost_at : (hs : List HostBehaviour) (ms : Bank Served hs) (s : Signal) (i : ℕ) → get_or (listed (λ h. served_mark h s) hs ms) i Quiet ≡ Lost → get_or (verdicts transfers (masters_of hs ms) s) i quiet ≡ lost
-lost_at [] ms s i e = let z : ◌≡◌ {A = ℕ} 0 1 = cc in absurd (omega arith)
+lost_at [] ms s i e = cc
 lost_at (h ∷ hs) ms s zero e = lost_mark (master_step transfers ms.0.master s).1 e
 lost_at (h ∷ hs) ms s (suc i) e = lost_at hs ms.1 s i e
 
@@ -84,8 +77,7 @@ module _ (hs : List HostBehaviour) (ds : List Behaviour) where
     pub ticks_are : m + t ≡ r.ticks
 
   either_counts : (v : Bool) (x y : Use hs ds) (t o m : ℕ) (q r : Running hs ds) → Counts x x t o 0 q → Counts x y t o m r → Counts x (cond v x y) t o (cond v 0 m) (cond v q r)
-  either_counts true x y t o m q r h k = h
-  either_counts false x y t o m q r h k = k
+  either_counts v x y t o m q r h k = grind arith
 
   pub run_counts : (n t o z : ℕ) (a : ℕ → Holds ds) (x : Use hs ds) → Counts x (run_on hs ds n t a x) t o (ticks_of_run hs ds n t a x) (goes_on hs ds n a (runner x t o z))
   run_counts zero t o z a x = record { outcomes_are = refl; ticks_are = omega arith }

@@ -1,17 +1,13 @@
 -- How long the ports together hold SCL: the largest hold of all.
-use Rattle.std.proofs.Common.{◌≡◌, ℕ, suc, ◌-◌, ◌/◌, ◌%◌, ◌≤◌, max, Bool, true, false, cond, ◌||◌, eqb, ltb, List, [], ◌∷◌, Some, None, Option, refl, ap, ◌∙◌, arith}
+use Rattle.std.proofs.Common.{◌≡◌, ℕ, ◌-◌, ◌≤◌, max, Bool, ◌||◌, ltb, List, [], ◌∷◌, Some, None, Option, refl, ap, ◌∙◌, arith}
 use Rattle.std.proofs.lemmas.Bool.Decides.{nat_tests}
-use Rattle.transfer.specs.declared.leg.Direction.TheVariants.{Write, Read}
 use Rattle.device.specs.Behaviours.{Behaviour}
 use Rattle.port.specs.declared.port.Mode.{Mode}
-use Rattle.port.specs.declared.port.Mode.TheVariants.{Out, Addressing, Writing, Acknowledging, Reading}
 use Rattle.wire.specs.declared.wire.Event.{Event}
 use Rattle.wire.specs.declared.wire.Event.TheVariants.{Rise, Fall, Start, Stop, SteadyHigh, SteadyLow}
 use Rattle.law.specs.Banks.{Bank, listed}
 use Rattle.law.specs.Buses.{all_pulls, Holds, ports_step}
-use Rattle.wire.specs.Octets.{shifted, part}
-use Rattle.transfer.specs.Legs.{direction_of}
-use Rattle.port.specs.Ports.{PortModel, port_pulls, answers_to, goes, selects, called, puts, reads_on, counts}
+use Rattle.port.specs.Ports.{PortModel, port_pulls, counts}
 use Rattle.law.proofs.Law.Machine.{hold_after}
 
 abbrev pub longest_hold : (ds : List Behaviour) → Bank PortModel ds → ℕ
@@ -61,34 +57,17 @@ pub hold_follows : (ds : List Behaviour) (p : Bank PortModel ds) (e : Event) (o 
     (e ≡ Fall → longest_hold ds p ≡ 0) →
     longest_hold ds (ports_step ds p (record { event = e; bit = o; idle = i }) a) ≡
     hold_after (longest_hold ds p) e o (asked_hold e o (longest_hold ds (ports_step ds p (record { event = e; bit = o; idle = i }) a)))
-hold_follows ds p Fall None i a h = still ds p Fall None i a (λ k. let z : ◌≡◌ {A = ℕ} 0 1 = cc in absurd (omega arith)) refl ∙ h refl
+hold_follows ds p Fall None i a h = still ds p Fall None i a (λ k. cc) refl ∙ h refl
 hold_follows ds p Fall (Some x) i a h = refl
 hold_follows ds p SteadyLow o i a h = lowered ds p o i a
-hold_follows ds p Start o i a h = still ds p Start o i a (λ k. let z : ◌≡◌ {A = ℕ} 0 1 = cc in absurd (omega arith)) refl
-hold_follows ds p Stop o i a h = still ds p Stop o i a (λ k. let z : ◌≡◌ {A = ℕ} 0 1 = cc in absurd (omega arith)) refl
-hold_follows ds p SteadyHigh o i a h = still ds p SteadyHigh o i a (λ k. let z : ◌≡◌ {A = ℕ} 0 1 = cc in absurd (omega arith)) refl
-hold_follows ds p (Rise x) o i a h = still ds p (Rise x) o i a (λ k. let z : ◌≡◌ {A = ℕ} 0 1 = cc in absurd (omega arith)) refl
+hold_follows ds p Start o i a h = still ds p Start o i a (λ k. cc) refl
+hold_follows ds p Stop o i a h = still ds p Stop o i a (λ k. cc) refl
+hold_follows ds p SteadyHigh o i a h = still ds p SteadyHigh o i a (λ k. cc) refl
+hold_follows ds p (Rise x) o i a h = still ds p (Rise x) o i a (λ k. cc) refl
 
 module _ (b : Behaviour) where
-  small_if : (t : Bool) (p q : PortModel b) → p.hold ≤ 255 → q.hold ≤ 255 → (cond t p q).hold ≤ 255
-  small_if true p q h k = h
-  small_if false p q h k = k
-
-  small_reads : (p : PortModel b) (x : Bool) (a : ℕ × b.Meaning) (h : ℕ) → p.hold ≤ 255 → h ≤ 255 → (reads_on b p x a h).hold ≤ 255
-  small_reads p true a h k l = k
-  small_reads p false a h k l = l
-
   small_counts : (p : PortModel b) (m : Mode) (x : Bool) (h : ℕ) → p.hold ≤ 255 → h ≤ 255 → (counts b p m x h).hold ≤ 255
-  small_counts p Out x h k l = k
-  small_counts p (Addressing y) x h k l = let v = shifted y.value x in let d = direction_of (eqb (v % 2) 1) in
-      small_if (ltb y.bits 7) (goes b p (Addressing (part (suc y.bits) v))) (called b p (v / 2) d) k
-      (small_if (answers_to p.address (v / 2)) (selects b p d (b.select p.meaning d)) (goes b p Out) k k)
-  small_counts p (Writing y) x h k l = let v = shifted y.value x in
-      small_if (ltb y.bits 7) (goes b p (Writing (part (suc y.bits) v))) (puts b p (b.put p.meaning v)) k k
-  small_counts p (Acknowledging Write) x h k l = l
-  small_counts p (Acknowledging Read) x h k l = small_reads p x (b.take p.meaning) h k l
-  small_counts p (Reading y) x h k l = let m = Reading (part (suc y.bits) y.value) in
-      small_if (ltb y.bits 8) (goes b p m) (reads_on b p x (b.take p.meaning) h) k (small_reads p x (b.take p.meaning) h k l)
+  small_counts p m x h k e = grind arith
 
 -- a hold that is asked for is at most 255
 pub asked_small : (ds : List Behaviour) (p : Bank PortModel ds) (x i : Bool) (a : Holds ds) → longest_hold ds p ≤ 255 →

@@ -40,17 +40,16 @@ abbrev pub all_hosts : List HostBehaviour → Hosts transfers
 all_hosts hs = record { State = Meanings hs; wants = wants_of hs; hear = hears_all hs }
 
 legal_want : (w : Option Transfer) (t : TransferModel) → option_map transfer_model w ≡ Some t → Legal t
-legal_want None t e = let z : ◌≡◌ {A = ℕ} 0 1 = cc in absurd (omega arith)
+legal_want None t e = cc
 legal_want (Some v) t e = let same : transfer_model v ≡ t = cc in subst Legal same (legal_transfer v)
 
 legal_wants : (hs : List HostBehaviour) (m : Meanings hs) (i : ℕ) (t : TransferModel) → at (wants_of hs m) i ≡ Some t → Legal t
-legal_wants [] m i t e = let z : ◌≡◌ {A = ℕ} 0 1 = cc in absurd (omega arith)
+legal_wants [] m i t e = cc
 legal_wants (h ∷ hs) m zero t e = legal_want (h.want m.0) t e
 legal_wants (h ∷ hs) m (suc i) t e = legal_wants hs m.1 i t e
 
 unheard_one : (h : HostBehaviour) (m : h.Meaning) (t : Option OutcomeModel) → t ≡ None → hears_one h m t ≡ m
-unheard_one h m None e = refl
-unheard_one h m (Some o) e = let z : ◌≡◌ {A = ℕ} 0 1 = cc in absurd (omega arith)
+unheard_one h m t k = grind arith
 
 unheard_all : (hs : List HostBehaviour) (m : Meanings hs) (ts : List (Option OutcomeModel)) → ((i : ℕ) → at ts i ≡ None) → hears_all hs m ts ≡ m
 unheard_all [] m ts e = refl

@@ -1,5 +1,5 @@
 -- The law over every use of a bus, from the law over its machine.
-use Rattle.std.proofs.Common.{◌≡◌, ℕ, zero, suc, ◌+◌, ◌<◌, ◌≤◌, Bool, true, false, ltb, List, [], ◌∷◌, map, get_or, is_some, Some, None, Ok, Option, sym, refl, ap, ◌∙◌, subst, ap₂, arith}
+use Rattle.std.proofs.Common.{◌≡◌, ℕ, zero, suc, ◌+◌, ◌<◌, ◌≤◌, Bool, true, false, ltb, List, [], ◌∷◌, map, get_or, is_some, Some, None, Ok, Option, sym, ap, ◌∙◌, subst, ap₂, arith}
 use Rattle.std.proofs.lemmas.Bool.{le-ltb}
 use Rattle.std.specs.Option.{option_map}
 use Rattle.transfer.specs.Drafts.{TransferModel}
@@ -7,8 +7,8 @@ use Rattle.device.specs.Behaviours.{Behaviour}
 use Rattle.host.specs.Behaviours.{HostBehaviour}
 use Rattle.master.specs.declared.mark.Mark.TheVariants.{Quiet, Lost}
 use Rattle.wire.specs.declared.wire.Event.TheVariants.{Stop}
-use Rattle.law.specs.Banks.{listed}
-use Rattle.law.specs.Books.{any_true, standing_of, Book, book_arm, contests, least}
+use Rattle.law.specs.Banks.{listed, any_true}
+use Rattle.law.specs.Books.{standing_of, Book, book_arm, contests, least}
 use Rattle.law.specs.Buses.{Holds, arm_at, levels_at, told_at}
 use Rattle.law.specs.Carrying.{Carried}
 use Rattle.law.specs.Laws.{Call, runs, Use, event_at, marks_of, watched, calls, used, run_on, ticks_of_run, ticks_of_call, ticks_of, armed_now, how_many_true, Point, Loses, Stopped, TickLaw, Law}
@@ -35,21 +35,18 @@ use Rattle.law.proofs.View.Used.{used_as, Good, event_seen, told_seen, arm_answe
 use Rattle.law.proofs.View.Watched.{noted_as, watched_as}
 
 legal_at : (l : List (Option TransferModel)) (i : ℕ) (t : TransferModel) → AllLegal l → at l i ≡ Some t → Legal t
-legal_at [] i t k e = let z : ◌≡◌ {A = ℕ} 0 1 = cc in absurd (omega arith)
+legal_at [] i t k e = cc
 legal_at (o ∷ l) zero t k e = subst LegalIf e k.0
 legal_at (o ∷ l) (suc i) t k e = legal_at l i t k.1 e
 
 turn_open : (v : Bool) (l m : List (Option TransferModel)) → turn_if v l ≡ Some m → (v ≡ true) × (l ≡ m)
-turn_open true l m e = (refl, let f : l ≡ m = cc in f)
-turn_open false l m e = let z : ◌≡◌ {A = ℕ} 0 1 = cc in absurd (omega arith)
+turn_open v l m h = grind arith
 
 turn_some : (v : Bool) (l : List (Option TransferModel)) → v ≡ true → is_some (turn_if v l) ≡ true
-turn_some true l e = refl
-turn_some false l e = e
+turn_some v l h = grind arith
 
 turn_is : (v : Bool) (l : List (Option TransferModel)) → v ≡ true → turn_if v l ≡ Some l
-turn_is true l e = refl
-turn_is false l e = let z : ◌≡◌ {A = ℕ} 0 1 = cc in absurd (omega arith)
+turn_is v l h = grind arith
 
 module _ (hs : List HostBehaviour) (ds : List Behaviour) where
   abbrev Lawful : Use hs ds → Type 0

@@ -1,5 +1,5 @@
 -- Any calls, runs too, as steps of the machine of the law.
-use Rattle.std.proofs.Common.{◌≡◌, ℕ, zero, suc, ◌+◌, Bool, true, false, cond, ltb, List, [], ◌∷◌, ◌++◌, sym, refl, ap, ◌∙◌, subst, arith}
+use Rattle.std.proofs.Common.{◌≡◌, ℕ, zero, suc, ◌+◌, Bool, cond, ltb, List, [], ◌∷◌, ◌++◌, sym, refl, ap, ◌∙◌, subst, arith}
 use Rattle.device.specs.Behaviours.{Behaviour}
 use Rattle.host.specs.Behaviours.{HostBehaviour}
 use Rattle.law.specs.Buses.{Holds, is_at_rest}
@@ -35,7 +35,7 @@ module _ (hs : List HostBehaviour) (ds : List Behaviour) where
     pub in_ticks : steps_ticks steps ≡ n
 
   nowhere : (x : Use hs ds) → Good hs ds x → Reaches x x 0
-  nowhere x k = record { steps = []; as_law = refl; good = k; held = tt; in_ticks = refl }
+  nowhere x h = grind arith
 
   onward : (x y z : Use hs ds) (m n : ℕ) → Reaches x y m → Reaches y z n → Reaches x z (m + n)
   onward x y z m n p q = record {
@@ -62,8 +62,7 @@ module _ (hs : List HostBehaviour) (ds : List Behaviour) where
   }
 
   either : (v : Bool) (x y : Use hs ds) (n : ℕ) → Good hs ds x → Reaches x y n → Reaches x (cond v x y) (cond v 0 n)
-  either true x y n k p = nowhere x k
-  either false x y n k p = p
+  either v x y n h k = grind arith
 
   ran : (n k : ℕ) (a : ℕ → Holds ds) (x : Use hs ds) → Good hs ds x → Reaches x (run_on hs ds n k a x) (ticks_of_run hs ds n k a x)
   ran zero k a x g = nowhere x g

@@ -1,10 +1,10 @@
 -- The bus as the machine of the law sees it, and a tick of both.
-use Rattle.std.proofs.Common.{◌≡◌, ℕ, ◌≤◌, Bool, true, false, not, ◌||◌, ltb, List, [], ◌∷◌, Some, None, Option, refl, ap, ◌∙◌, ap₂, arith}
+use Rattle.std.proofs.Common.{◌≡◌, ℕ, ◌≤◌, Bool, true, not, ◌||◌, ltb, List, [], ◌∷◌, Option, refl, ap, ◌∙◌, ap₂, arith}
 use Rattle.std.proofs.lemmas.Bool.Decides.{nat_tests}
 use Rattle.device.specs.Behaviours.{Behaviour}
 use Rattle.host.specs.Behaviours.{HostBehaviour}
 use Rattle.wire.specs.declared.wire.Event.{Event}
-use Rattle.wire.specs.declared.wire.Event.TheVariants.{Rise, Fall, Start, Stop, SteadyHigh, SteadyLow}
+use Rattle.wire.specs.declared.wire.Event.TheVariants.{Fall}
 use Rattle.wire.specs.declared.wire.Levels.{Levels}
 use Rattle.wire.specs.declared.wire.Signal.{Signal}
 use Rattle.law.specs.Banks.{Bank, each, listed}
@@ -15,7 +15,7 @@ use Rattle.port.specs.Ports.{PortModel, port_pulls}
 use Rattle.master.specs.Scripts.{transfers}
 use Rattle.wire.specs.Wires.{both, levels_of, moved, event, signal, wire_after}
 use Rattle.law.proofs.Alone.PortsSide.{unheld, ports_side, side_sees, side_follows, side_pulls}
-use Rattle.law.proofs.Law.Machine.{Bus, masters_pull, masters_step, verdicts, hold_after, side_after, levels, after, tick, tick_verdicts}
+use Rattle.law.proofs.Law.Machine.{Bus, masters_pull, masters_step, hold_after, side_after, levels, after, tick}
 use Rattle.law.proofs.View.Holding.{longest_hold, held, asked_hold, hold_follows, answers_small}
 
 abbrev pub master_of : (h : HostBehaviour) → Served h → MasterModel transfers
@@ -53,11 +53,7 @@ module _ (hs : List HostBehaviour) (ds : List Behaviour) where
       ap₂ (λ p q. levels_of (both p q)) m (λ i. record { scl = c i; sda = d i })
 
   falls_from_high : (a b : Levels) → event a b ≡ Fall → a.scl ≡ true
-  falls_from_high a b e = high a.scl b.scl a.sda b.sda e where
-    high : (c d x y : Bool) → moved c d x y ≡ Fall → c ≡ true
-    high true d x y e = refl
-    high false true x y e = let z : ◌≡◌ {A = ℕ} 0 1 = cc in absurd (omega arith)
-    high false false x y e = let z : ◌≡◌ {A = ℕ} 0 1 = cc in absurd (omega arith)
+  falls_from_high a b h = grind arith
 
   -- what the ports are asked for in the next tick
   abbrev pub answer_at : BusModel hs ds → Holds ds → ℕ
@@ -68,13 +64,7 @@ module _ (hs : List HostBehaviour) (ds : List Behaviour) where
       answers_small ds u.ports s.event s.bit s.idle a (λ e. h (falls_from_high u.wire.last (levels_at hs ds u) e))
 
   same_side : (e : Event) (o : Option Bool) (s : Bank PortModel ds) → side_sees ds e o s ≡ side_after (ports_side ds) s e o
-  same_side Start o s = refl
-  same_side Stop o s = refl
-  same_side Fall None s = refl
-  same_side Fall (Some x) s = refl
-  same_side SteadyLow o s = refl
-  same_side SteadyHigh o s = refl
-  same_side (Rise x) o s = refl
+  same_side e o s = grind arith
 
   -- a tick of the bus is a tick of the machine
   pub tick_seen : (u : BusModel hs ds) (a : Holds ds) → LetGo u → seen (tick_at hs ds u a).1 ≡ tick transfers (ports_side ds) (seen u) (answer_at u a)
@@ -86,12 +76,6 @@ module _ (hs : List HostBehaviour) (ds : List Behaviour) where
       let hold_goes = hold_follows ds u.ports s.event s.bit s.idle a (λ e. h (falls_from_high u.wire.last v e)) in
       (λ i. record { wire = wire_after u.wire v; masters = masters_go i; side = side_goes i; hold = hold_goes i })
       ∙ ap (λ w. after transfers (ports_side ds) (seen u) w (answer_at u a)) (levels_seen u)
-
-  pub verdicts_of : (u : BusModel hs ds) → listed (λ h x. (master_step transfers x.master (signal u.wire (levels_at hs ds u))).1) hs u.masters ≡ tick_verdicts transfers (ports_side ds) (seen u)
-  verdicts_of u = each_verdict hs u.masters (signal u.wire (levels_at hs ds u)) ∙ ap (λ v. verdicts transfers (masters_of hs u.masters) (signal u.wire v)) (levels_seen u) where
-    each_verdict : (gs : List HostBehaviour) (ms : Bank Served gs) (s : Signal) → listed (λ h x. (master_step transfers x.master s).1) gs ms ≡ verdicts transfers (masters_of gs ms) s
-    each_verdict [] ms s = refl
-    each_verdict (g ∷ gs) ms s = ap (λ l. (master_step transfers ms.0.master s).1 ∷ l) (each_verdict gs ms.1 s)
 
   -- SCL that is high now is held by nobody, and no step then begins to hold it
   pub still_let_go : (u : BusModel hs ds) (a : Holds ds) → LetGo u → LetGo (tick_at hs ds u a).1
@@ -105,10 +89,4 @@ module _ (hs : List HostBehaviour) (ds : List Behaviour) where
         nobody p q n e h = grind (arith, nat_tests)
 
         kept : (c d x y : Bool) (n : ℕ) (o : Option Bool) (h : ℕ) → d ≡ true → hold_after n (moved c d x y) o h ≡ n
-        kept true true true true n o h e = refl
-        kept true true true false n o h e = refl
-        kept true true false true n o h e = refl
-        kept true true false false n o h e = refl
-        kept false true x y n o h e = refl
-        kept true false x y n o h e = let z : ◌≡◌ {A = ℕ} 0 1 = cc in absurd (omega arith)
-        kept false false x y n o h e = let z : ◌≡◌ {A = ℕ} 0 1 = cc in absurd (omega arith)
+        kept c d x y n o h k = grind arith

@@ -1,5 +1,5 @@
 -- A use of the bus as a use of the machine of the law, call by call.
-use Rattle.std.proofs.Common.{◌≡◌, ℕ, zero, suc, ◌+◌, cond, List, [], ◌∷◌, is_ok, Ok, Err, Result, refl, ap, ◌∙◌, ap₂}
+use Rattle.std.proofs.Common.{◌≡◌, ℕ, zero, suc, ◌+◌, cond, List, [], ◌∷◌, is_ok, Result, refl, ap, ◌∙◌, ap₂, arith}
 use Rattle.device.specs.Behaviours.{Behaviour}
 use Rattle.host.specs.Behaviours.{HostBehaviour}
 use Rattle.wire.specs.declared.wire.Signal.{Signal}
@@ -7,7 +7,7 @@ use Rattle.law.specs.Banks.{Bank, each}
 use Rattle.law.specs.Buses.{arm_nth, Holds, BusModel, levels_at, told_at}
 use Rattle.master.specs.Serving.{Served, served_step, hears}
 use Rattle.law.specs.Laws.{arms, Use, event_at, marks_of, watched, notes_lost, ticks_once, calls}
-use Rattle.master.specs.Masters.{VerdictModel, quiet, lost, told, master_step}
+use Rattle.master.specs.Masters.{VerdictModel, master_step}
 use Rattle.master.specs.Scripts.{transfers}
 use Rattle.wire.specs.Wires.{event, signal}
 use Rattle.law.proofs.Alone.PortsSide.{ports_side}
@@ -42,14 +42,11 @@ arm_answer_is (h ∷ hs) ms zero = refl
 arm_answer_is (h ∷ hs) ms (suc n) = arm_answer_is hs ms.1 n
 
 accepted_is : (r : Result (Unit {0}) ℕ) → cond (is_ok r) 1 0 ≡ accepted r
-accepted_is (Ok x) = refl
-accepted_is (Err n) = refl
+accepted_is r = grind arith
 
 -- ticks
 hears_told : (h : HostBehaviour) (m : h.Meaning) (k : VerdictModel transfers) → hears h m k ≡ hears_one h m (telling transfers k)
-hears_told h m quiet = refl
-hears_told h m lost = refl
-hears_told h m (told o) = refl
+hears_told h m k = grind arith
 
 step_hosts : (hs : List HostBehaviour) (ms : Bank Served hs) (s : Signal) → hosts_of hs (each (λ h. served_step h s) hs ms) ≡ hears_all hs (hosts_of hs ms) (tellings transfers (verdicts transfers (masters_of hs ms) s))
 step_hosts [] ms s = refl

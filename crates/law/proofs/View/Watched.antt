@@ -1,16 +1,17 @@
 -- What the watcher notes, as the watcher of the law notes it.
-use Rattle.std.proofs.Common.{◌≡◌, ℕ, zero, suc, Bool, true, false, cond, ◌||◌, List, [], ◌∷◌, ◌++◌, map, Some, None, Option, sym, refl, ap, ◌∙◌, ap₂, arith}
+use Rattle.std.proofs.lemmas.List.Sums.{sum_by-cons}
+use Rattle.std.proofs.Common.{◌≡◌, ℕ, zero, suc, Bool, true, false, cond, ◌||◌, List, [], ◌∷◌, ◌++◌, map, Some, None, Option, sym, refl, ap, ◌∙◌, ap₂, arith, is_some}
 use Rattle.transfer.specs.Drafts.{TransferModel}
 use Rattle.device.specs.Behaviours.{Behaviour}
 use Rattle.host.specs.Behaviours.{HostBehaviour}
 use Rattle.wire.specs.declared.wire.Event.{Event}
 use Rattle.wire.specs.declared.wire.Event.TheVariants.{Rise, Fall, Start, Stop, SteadyHigh, SteadyLow}
 use Rattle.wire.specs.declared.wire.Signal.{Signal}
-use Rattle.law.specs.Banks.{Bank, each, listed}
-use Rattle.law.specs.Books.{any_true, Entry, enters, standing_of, Book, book_after}
+use Rattle.law.specs.Banks.{Bank, each, listed, any_true}
+use Rattle.law.specs.Books.{Entry, enters, standing_of, Book, book_after}
 use Rattle.master.specs.Serving.{Served, served_mark, served_told, mark_of, outcome_told}
 use Rattle.law.specs.Laws.{Watch, watching, sees, starts_again, is_lost, marked_too, watched}
-use Rattle.master.specs.Masters.{VerdictModel, quiet, lost, told, master_step}
+use Rattle.master.specs.Masters.{VerdictModel, master_step}
 use Rattle.law.specs.Runs.{how_many}
 use Rattle.master.specs.Scripts.{transfers}
 use Rattle.law.specs.Strings.{Letter, stop, restart, rank, bit_letter}
@@ -80,9 +81,7 @@ module _ (hs : List HostBehaviour) (ds : List Behaviour) where
 
 -- marks by verdicts
 mark_lost : (k : VerdictModel transfers) → is_lost (mark_of k) ≡ verdict_lost transfers k
-mark_lost quiet = refl
-mark_lost lost = refl
-mark_lost (told o) = refl
+mark_lost k = grind arith
 
 pub marked_as : (hs : List HostBehaviour) (ms : Bank Served hs) (s : Signal) (vs : List Bool) →
     marked_too vs (listed (λ h. served_mark h s) hs ms) ≡ marks_too transfers vs (verdicts transfers (masters_of hs ms) s)
@@ -92,9 +91,7 @@ marked_as (h ∷ hs) ms s [] = refl
 marked_as (h ∷ hs) ms s (v ∷ vs) = ap₂ (λ a l. (v || a) ∷ l) (mark_lost (master_step transfers ms.0.master s).1) (marked_as hs ms.1 s vs)
 
 told_one : (k : VerdictModel transfers) → outcome_told k ≡ telling transfers k
-told_one quiet = refl
-told_one lost = refl
-told_one (told o) = refl
+told_one k = grind arith
 
 pub told_as : (hs : List HostBehaviour) (ms : Bank Served hs) (s : Signal) → listed (λ h. served_told h s) hs ms ≡ tellings transfers (verdicts transfers (masters_of hs ms) s)
 told_as [] ms s = refl
@@ -102,5 +99,5 @@ told_as (h ∷ hs) ms s = ap₂ ◌∷◌ (told_one (master_step transfers ms.0.
 
 pub how_many_is : {A : Type 0} (l : List (Option A)) → how_many l ≡ count l
 how_many_is [] = refl
-how_many_is (None ∷ l) = let e = how_many_is l in omega arith
-how_many_is (Some a ∷ l) = let e = how_many_is l in omega arith
+how_many_is (None ∷ l) = how_many_is l
+how_many_is (Some a ∷ l) = omega (arith, how_many_is l, sum_by-cons (λ o. cond (is_some o) 1 0) (Some a) l)

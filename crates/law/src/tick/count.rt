@@ -1,5 +1,5 @@
 // How many masters a tick told.
-ghost use Rattle.std.specs.Prelude.{◌≡◌, ◌≤◌, length};
+ghost use Rattle.std.specs.Prelude.{◌≡◌, ◌≤◌};
 ghost use Rattle.law.specs.Runs.{tolds};
 
 use super::Tick;
@@ -11,20 +11,9 @@ impl Tick {
         ensures few { result ≤ 8 }
         ensures all { result ≡ tolds self.now.marks }
     {
-        told(&self.marks)
+        self.marks
+            .iter()
+            .map(|mark| u32::from(*mark == Mark::Told))
+            .sum()
     }
-}
-
-fn told(marks: &[Mark]) -> u32
-    requires { length marks.now ≤ 8 }
-    ensures few { result ≤ 8 }
-    ensures all { result ≡ tolds marks.now }
-{
-    let mut all = 0;
-    for mark in marks {
-        if let Mark::Told = *mark {
-            all += 1;
-        }
-    }
-    all
 }
