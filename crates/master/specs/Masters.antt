@@ -15,7 +15,7 @@ use Rattle.wire.specs.declared.wire.Event.{Event}
 use Rattle.wire.specs.declared.wire.Event.TheVariants.{Rise, Fall, Start, Stop, SteadyHigh, SteadyLow}
 use Rattle.wire.specs.declared.wire.Pulls.{Pulls}
 use Rattle.wire.specs.declared.wire.Signal.{Signal}
-use Rattle.master.specs.Cursors.{CursorModel, cursor_model}
+use Rattle.master.specs.Cursors.{cursor_model}
 use Rattle.master.specs.Scripts.{Script, transfers}
 use Rattle.master.specs.Symbols.{pulls_sda}
 use Rattle.wire.specs.Wires.{no_pulls}

@@ -5,4 +5,5 @@ pub mod Octets
 pub mod Bytes
 pub mod Legs
 pub mod Drafts
+pub mod Wholes
 pub mod Outcomes

@@ -24,3 +24,4 @@ impl Model for Draft {
 }
 
 mod calls;
+mod whole;
