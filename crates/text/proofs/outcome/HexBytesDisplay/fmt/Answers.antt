@@ -1,23 +1,16 @@
-use Rattle.std.proofs.Common.{◌≡◌, ℕ, ◌+◌, ◌^◌, ◌-◌, ◌<◌, ◌++◌, List, [], length, codes, get_or, take, arith, rules, true, false}
+use Rattle.std.proofs.Common.{◌≡◌, ℕ, ◌+◌, ◌<◌, ◌++◌, List, [], length, codes, get_or, take, arith, rules}
 use Rattle.std.proofs.Output.{has_written_append, has_written_of_eq}
-use Rattle.std.proofs.lemmas.Fmt.{hex_byte}
 use Rattle.std.proofs.lemmas.List.{flat_map_more, take_more}
-use Rattle.std.specs.Fmt.{digits, padded_integral, format_spec}
 use Rattle.text.specs.Outcomes.{byte_item, bytes_text}
+use Rattle.text.proofs.Shown.{shown, shown_is}
 use Rattle.text.proofs.outcome.HexBytesDisplay.fmt.Goals as goal
-
--- what `{:02X}` writes
-shown : ℕ → List ℕ
-shown b = padded_integral (format_spec 32 0 4 2 (2 ^ 64 - 1)) false [] (digits 16 true b)
 
 grown : (xs : List ℕ) (i : ℕ) → i < length xs → get_or xs i 0 < 256 →
     bytes_text (take i xs) ++ (codes " " ++ shown (get_or xs i 0)) ≡ bytes_text (take (i + 1) xs)
-unfolding shown
 grown xs i h byte =
-    rw (hex_byte true (get_or xs i 0) byte, take_more xs i 0 h) (flat_map_more byte_item [] (take i xs) (get_or xs i 0))
+    rw (shown_is (get_or xs i 0) byte, take_more xs i 0 h) (flat_map_more byte_item [] (take i xs) (get_or xs i 0))
 
 pub loop-byte-preserved : goal.loop-byte-preserved
-unfolding shown
 loop-byte-preserved g c = λ p.
     let xs = c.args.self.now.0.now in
     let i = c.loop-byte.byte-index in
