@@ -1,38 +1,49 @@
--- A text that goes through the masters and adds something for each whose mark passes.
-use Rattle.std.proofs.Common.{◌≡◌, ℕ, ◌+◌, ◌<◌, ◌≤◌, Bool, true, false, cond, List, ◌∷◌, ◌++◌, length, get_or, drop, sym, refl, ap, ◌∙◌, append_assoc, append-nil, add-one}
-use Rattle.std.proofs.lemmas.List.{drop_more, drop_all}
+-- The masters with a mark, as far as a loop over them has come.
+use Rattle.std.proofs.Common.{◌≡◌, ℕ, suc, ◌+◌, ◌<◌, Bool, true, false, cond, List, [], ◌∷◌, ◌++◌, length, get_or, take, decimal, refl, ◌∙◌, sym, arith}
 use Rattle.std.specs.List.{flat_map}
+use Rattle.std.proofs.lemmas.Grind.{flat_map-append}
+use Rattle.std.proofs.lemmas.Bool.{lt-ltb}
+use Rattle.std.proofs.lemmas.Fmt.{decimal_digit}
+use Rattle.std.proofs.lemmas.List.{take_more, length-take-le}
+use denote.Enum.Bare.{sameb}
+use Rattle.master.specs.contracts.mark.Mark.{the_type}
 use Rattle.master.specs.declared.mark.Mark.{Mark}
 use Rattle.master.specs.declared.mark.Mark.TheVariants.{Quiet, Told, Lost}
-use Rattle.listing.specs.Lines.{numbers, is_lost, is_told}
+use Rattle.text.specs.Digits.{digit_code}
+use Rattle.listing.specs.Lines.{numbers, is_mark}
 
-pub not_lost : (m : Mark) → (m ≡ Lost → ⊥) → is_lost m ≡ false
-not_lost Lost h = absurd (h refl)
-not_lost Told h = refl
-not_lost Quiet h = refl
+-- a number below 10 is one digit
+pub digit : (n : ℕ) → n < 10 → decimal n ≡ digit_code n ∷ []
+digit n h = let code : digit_code n ≡ 48 + n = rw (lt-ltb n 10 h) in decimal_digit n h ∙ rw code
 
-pub not_told : (m : Mark) → (m ≡ Told → ⊥) → is_told m ≡ false
-not_told Told h = absurd (h refl)
-not_told Lost h = refl
-not_told Quiet h = refl
+-- what `==` answers
+pub marked : (m n : Mark) → sameb the_type n m ≡ is_mark m n
+marked Lost Lost = refl
+marked Lost Told = refl
+marked Lost Quiet = refl
+marked Told Lost = refl
+marked Told Told = refl
+marked Told Quiet = refl
+marked Quiet Lost = refl
+marked Quiet Told = refl
+marked Quiet Quiet = refl
 
-module _ (p : Mark → Bool) (f : ℕ → List ℕ) where
-  -- what is still to come from master i on
-  abbrev pub to_come : ℕ → List Mark → List ℕ
-  to_come i ms = flat_map f (numbers p i (drop i ms))
+front : (b : Bool) (n : ℕ) (xs ys : List ℕ) → cond b (n ∷ (xs ++ ys)) (xs ++ ys) ≡ cond b (n ∷ xs) xs ++ ys
+front true n xs ys = refl
+front false n xs ys = refl
 
-  step : (ms : List Mark) (i : ℕ) (d : Mark) (b : Bool) → i < length ms → p (get_or ms i d) ≡ b →
-      to_come i ms ≡ flat_map f (cond b (i ∷ numbers p (i + 1) (drop (i + 1) ms)) (numbers p (i + 1) (drop (i + 1) ms)))
-  step ms i d b h e = rw (drop_more ms i d h, e, add-one)
+numbers_push : (p : Mark → Bool) (n k : ℕ) (ms : List Mark) (m : Mark) → k ≡ n + length ms → numbers p n (ms ++ (m ∷ [])) ≡ numbers p n ms ++ cond (p m) (k ∷ []) []
+numbers_push p n k [] m e = let here : k ≡ n = omega arith in rw here
+numbers_push p n k (x ∷ ms) m e =
+    rw (numbers_push p (suc n) k ms m (omega arith)) (front (p x) n (numbers p (suc n) ms) (cond (p m) (k ∷ []) []))
 
-  pub passes : (ms : List Mark) (i : ℕ) (d : Mark) (text item next all : List ℕ) → i < length ms → p (get_or ms i d) ≡ true → item ≡ f i → next ≡ text ++ item →
-      text ++ to_come i ms ≡ all → next ++ to_come (i + 1) ms ≡ all
-  passes ms i d text item next all h e is grown inv =
-      rw (grown, is) (append_assoc text (f i) _ ∙ (ap (λ xs. text ++ xs) (sym (step ms i d true h e)) ∙ inv))
+module _ (f : ℕ → List ℕ) (m : Mark) where
+  -- what is written for the masters before i
+  abbrev pub so_far : ℕ → List Mark → List ℕ
+  so_far i ms = flat_map f (numbers (is_mark m) 0 (take i ms))
 
-  pub fails : (ms : List Mark) (i : ℕ) (d : Mark) (text next all : List ℕ) → i < length ms → p (get_or ms i d) ≡ false → next ≡ text →
-      text ++ to_come i ms ≡ all → next ++ to_come (i + 1) ms ≡ all
-  fails ms i d text next all h e same inv = rw same (ap (λ xs. text ++ xs) (sym (step ms i d false h e)) ∙ inv)
-
-  pub through : (ms : List Mark) (i : ℕ) (text all : List ℕ) → length ms ≤ i → text ++ to_come i ms ≡ all → text ≡ all
-  through ms i text all h inv = sym (append-nil text) ∙ (ap (λ xs. text ++ flat_map f (numbers p i xs)) (sym (drop_all i ms h)) ∙ inv)
+  pub next : (ms : List Mark) (i : ℕ) (d : Mark) (b : Bool) → i < length ms → is_mark m (get_or ms i d) ≡ b →
+      so_far i ms ++ flat_map f (cond b (i ∷ []) []) ≡ so_far (i + 1) ms
+  next ms i d b h e =
+      let before = length-take-le i ms (omega arith) in
+      rw (take_more ms i d h, numbers_push (is_mark m) 0 i (take i ms) (get_or ms i d) (omega (arith, before)), e) (sym (flat_map-append f (numbers (is_mark m) 0 (take i ms)) (cond b (i ∷ []) [])))

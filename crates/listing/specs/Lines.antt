@@ -1,5 +1,5 @@
 -- The text of a tick, where d is its number in digits: a line for each mark. Assumes nothing.
-use Rattle.std.specs.Prelude.{ℕ, suc, Bool, true, false, cond, List, [], ◌∷◌, ◌++◌, codes}
+use Rattle.std.specs.Prelude.{ℕ, suc, Bool, true, false, cond, Option, Some, None, List, [], ◌∷◌, ◌++◌, codes}
 use Rattle.std.specs.List.{flat_map}
 use Rattle.master.specs.declared.mark.Mark.{Mark}
 use Rattle.master.specs.declared.mark.Mark.TheVariants.{Quiet, Told, Lost}
@@ -39,10 +39,26 @@ is_told Told = true
 is_told Lost = false
 is_told Quiet = false
 
+abbrev pub is_quiet : Mark → Bool
+is_quiet Quiet = true
+is_quiet Told = false
+is_quiet Lost = false
+
+-- whether the second is the first
+abbrev pub is_mark : Mark → Mark → Bool
+is_mark Lost m = is_lost m
+is_mark Told m = is_told m
+is_mark Quiet m = is_quiet m
+
 -- the numbers of the masters whose mark passes, the lowest first, where the first is master n
 abbrev pub numbers : (Mark → Bool) → ℕ → List Mark → List ℕ
 numbers p n [] = []
 numbers p n (m ∷ ms) = cond (p m) (n ∷ numbers p (suc n) ms) (numbers p (suc n) ms)
+
+-- each number between two texts; nothing is said of it where nothing is said of the first
+abbrev pub numbers_text : Option (List ℕ) → List ℕ → List ℕ → Option (List ℕ)
+numbers_text None after ns = None
+numbers_text (Some before) after ns = Some (flat_map (λ n. before ++ (digit_code n ∷ after)) ns)
 
 -- a bus has at most 8 masters, so the number of one is a digit
 abbrev pub loser_line : List ℕ → ℕ → List ℕ

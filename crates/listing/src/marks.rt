@@ -1,22 +1,34 @@
 // What one tick shows of the wire and of the masters.
+ghost use Rattle.std.specs.Prelude.{◌≡◌};
+ghost use Rattle.listing.specs.Listings.{acknowledge_of};
+
 use master::Mark;
 
 mod lines;
 
 // The ninth bit of a byte.
-#[derive(Clone, Copy)]
+#[derive(Clone, Copy, PartialEq, Eq, Debug)]
 pub enum Acknowledge {
     A,
     N,
 }
 
-#[derive(Clone, Copy)]
+// Low is A, high is N.
+impl From<bool> for Acknowledge {
+    ghost from_gives = { λ bit r. r ≡ acknowledge_of bit };
+
+    fn from(bit: bool) -> Acknowledge {
+        if bit { Acknowledge::N } else { Acknowledge::A }
+    }
+}
+
+#[derive(Clone, Copy, PartialEq, Eq, Debug)]
 pub struct ByteMark {
     pub value: u8,
     pub acknowledge: Acknowledge,
 }
 
-#[derive(Clone, Copy)]
+#[derive(Clone, Copy, PartialEq, Eq, Debug)]
 pub enum WireMark {
     Quiet,
     Start,

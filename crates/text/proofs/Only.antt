@@ -1,15 +1,24 @@
--- A number has one decimal.
-use Rattle.std.proofs.Common.{◌≡◌, ℕ, ◌^◌, ◌<◌, List, decimal, sym, ap, ◌∙◌, arith, rules}
-use Rattle.std.proofs.lemmas.Fmt.{decimal-digits_value}
+-- A number has one decimal, which is what `{}` writes of it.
+use Rattle.std.proofs.Common.{◌≡◌, ℕ, zero, suc, ◌^◌, ◌<◌, List, length, get_or, decimal, sym, ap, ◌∙◌, arith, rules}
+use Rattle.std.proofs.lemmas.Fmt.{digits_decimal, digits_value-decimal, decimal_digit, decimal_nonempty, first_decimal, decimal-digits_value}
 use Rattle.std.proofs.lemmas.Str.Parse.{IsNumeralModel, numerals_by_fold}
 use Rattle.text.specs.Decimals.{AllDigits, read_on, Decimal}
 
 own : IsNumeralModel AllDigits (read_on 0)
 own = numerals_by_fold AllDigits (search rules) read_on (search rules)
 
-spelt : (n : ℕ) (text : List ℕ) → n < 2 ^ 64 → Decimal n text → decimal n ≡ text
-spelt n text fits d =
-    ap decimal (sym d.value) ∙ decimal-digits_value own text d.digits d.some d.lead (omega (arith, d.value))
+lead : (n : ℕ) → n < 2 ^ 64 → get_or (decimal n) 0 0 ≡ 48 → length (decimal n) ≡ 1
+lead zero fits e = ap length (decimal_digit 0 (omega arith))
+lead (suc n) fits e = absurd (omega (arith, first_decimal (suc n) (omega arith) fits))
 
-pub only_one : (n : ℕ) (text other : List ℕ) → n < 2 ^ 64 → Decimal n text → Decimal n other → other ≡ text
-only_one n text other fits d e = sym (spelt n other fits e) ∙ spelt n text fits d
+pub is_decimal : (n : ℕ) → n < 2 ^ 64 → Decimal n (decimal n)
+is_decimal n fits = record {
+  digits = digits_decimal own n fits;
+  value = digits_value-decimal own n fits;
+  some = decimal_nonempty n fits;
+  lead = lead n fits;
+}
+
+pub only_one : (n : ℕ) (text : List ℕ) → n < 2 ^ 64 → Decimal n text → text ≡ decimal n
+only_one n text fits d =
+    sym (ap decimal (sym d.value) ∙ decimal-digits_value own text d.digits d.some d.lead (omega (arith, d.value)))

@@ -8,11 +8,9 @@ pub fn digit(value: u8) -> char
     ensures value { result ≡ digit_code value }
     ensures ascii { result < 128 }
 {
-    if value < 10 {
-        char::from(b'0' + value)
-    } else {
-        char::from(b'A' + (value - 10))
-    }
+    char::from_digit(value.into(), 16)
+        .unwrap()
+        .to_ascii_uppercase()
 }
 
 // A byte in two capital hexadecimal digits.

@@ -7,4 +7,4 @@ mod outcome;
 
 pub use digits::{digit, hex};
 pub use numeral::decimal;
-pub use outcome::{bytes_text, outcome_text};
+pub use outcome::{HexBytes, OutcomeText, bytes_text, outcome_text};

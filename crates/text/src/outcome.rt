@@ -1,47 +1,53 @@
 // What a host was told, as text.
-ghost use Rattle.std.specs.Prelude.{◌≡◌, IfOk, string_bytes};
+ghost use Rattle.std.specs.Prelude.{◌≡◌, IfOk, Some, string_bytes};
 ghost use Rattle.transfer.specs.Outcomes.{outcome_model};
-ghost use Rattle.text.specs.Outcomes.{byte_item, bytes_text, outcome_text};
+ghost use Rattle.text.specs.Outcomes.{bytes_text, outcome_text};
 
-use crate::digits::hex;
 use std::alloc::{AllocError, Global};
+use std::fmt::{self, Display};
 use transfer::{Outcome, OutcomeKind};
 
-fn byte_item(heap: Global, byte: u8) -> Result<String, AllocError>
-    ensures { IfOk result (λ s. string_bytes s ≡ byte_item byte) }
-{
-    let [high, low] = hex(byte);
-    format!(in heap; " {high}{low}")
+// Each byte as a space and two capital hexadecimal digits.
+#[derive(Clone, Copy)]
+pub struct HexBytes<'a>(pub &'a [u8]);
+
+impl Display for HexBytes<'_> {
+    ghost output = { λ b. Some (bytes_text b.0.now) };
+
+    fn fmt<W: fmt::Write>(&self, f: &mut fmt::Formatter<W>) -> fmt::Result {
+        for &byte in self.0 {
+            write!(f, " {byte:02X}")?;
+        }
+        Ok(())
+    }
 }
 
-// Each byte after a space.
+// An outcome in the words of a run's last lines: legs and bytes count from 0.
+#[derive(Clone, Copy)]
+pub struct OutcomeText<'a>(pub &'a Outcome);
+
+impl Display for OutcomeText<'_> {
+    ghost output = { λ o. Some (outcome_text (outcome_model o.0.now)) };
+
+    fn fmt<W: fmt::Write>(&self, f: &mut fmt::Formatter<W>) -> fmt::Result {
+        match self.0.kind {
+            OutcomeKind::Done => write!(f, "done{}", HexBytes(self.0.read.as_slice())),
+            OutcomeKind::NoAnswer(place) => write!(f, "no answer to leg {}", place.leg),
+            OutcomeKind::Refused(place) => {
+                write!(f, "byte {} of leg {} refused", place.byte, place.leg)
+            }
+        }
+    }
+}
+
 pub fn bytes_text(heap: Global, bytes: &[u8]) -> Result<String, AllocError>
     ensures { IfOk result (λ s. string_bytes s ≡ bytes_text bytes.now) }
 {
-    let mut text = String::new(heap);
-    for byte in bytes {
-        text.push_str(byte_item(heap, *byte)?.as_str())?;
-    }
-    Ok(text)
+    HexBytes(bytes).to_string(heap)
 }
 
-// In the words of a run's last lines: legs and bytes count from 0.
 pub fn outcome_text(heap: Global, outcome: &Outcome) -> Result<String, AllocError>
     ensures { IfOk result (λ s. string_bytes s ≡ outcome_text (outcome_model outcome.now)) }
 {
-    match outcome.kind {
-        OutcomeKind::Done => {
-            let read = bytes_text(heap, outcome.read.as_slice())?;
-            format!(in heap; "done{read}")
-        }
-        OutcomeKind::NoAnswer(place) => {
-            let leg = place.leg;
-            format!(in heap; "no answer to leg {leg}")
-        }
-        OutcomeKind::Refused(place) => {
-            let leg = place.leg;
-            let byte = place.byte;
-            format!(in heap; "byte {byte} of leg {leg} refused")
-        }
-    }
+    OutcomeText(outcome).to_string(heap)
 }

@@ -3,9 +3,9 @@ ghost use Rattle.std.specs.Prelude.{◌≡◌};
 ghost use Rattle.listing.specs.Listings.{new_listing, no_bits, takes_bit, listing_step};
 
 use super::{Listing, Partial};
-use crate::marks::{Acknowledge, ByteMark, Marks, WireMark};
+use crate::marks::{ByteMark, Marks, WireMark};
 use law::Tick;
-use wire::{Event, Latch};
+use wire::{Event, Latch, shift_in};
 
 impl Partial {
     fn none() -> Partial
@@ -20,13 +20,15 @@ impl Partial {
     {
         if self.bits < 8 {
             self.bits += 1;
-            self.value = self.value % 128 * 2 + bit as u8;
+            self.value = shift_in(self.value, bit);
             return WireMark::Quiet;
         }
         let value = self.value;
         *self = Partial::none();
-        let acknowledge = if bit { Acknowledge::N } else { Acknowledge::A };
-        WireMark::Byte(ByteMark { value, acknowledge })
+        WireMark::Byte(ByteMark {
+            value,
+            acknowledge: bit.into(),
+        })
     }
 }
 

@@ -1,6 +1,0 @@
-use Rattle.std.proofs.Common.{rules}
-use Rattle.std.proofs.lemmas.Str.Ascii.{encode_ascii}
-use Rattle.text.proofs.outcome.byte_item.Goals as goal
-
-pub returns : goal.returns
-returns c = search (rules, encode_ascii)
