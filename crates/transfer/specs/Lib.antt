@@ -4,4 +4,5 @@ pub mod Clocks
 pub mod Octets
 pub mod Legs
 pub mod Drafts
+pub mod Wholes
 pub mod Outcomes

@@ -15,3 +15,4 @@ pub struct Transfer {
 }
 
 mod calls;
+mod whole;
