@@ -1,11 +1,10 @@
 // Ticks the bus until nobody wants anything any more, and prints what each tick shows and what came of it.
 use crate::setup::{HeadBus, head_bus};
-use device::RegisterFile;
 use exchange::{End, Masters, Ports};
 use fault::Fault;
 use listing::Listing;
 use text::{bytes_text, outcome_text};
-use transfer::{Outcome, Refusal};
+use transfer::Refusal;
 
 const MASTERS: usize = 3;
 
@@ -17,7 +16,7 @@ const MOST_TICKS: u32 = 2_560_000;
 fn arm_all(bus: &mut HeadBus) -> Result<(), Refusal> {
     for master in 0..MASTERS {
         match bus.arm(master) {
-            Ok(()) | Err(Refusal::ArmedAlready) | Err(Refusal::NothingWanted) => {}
+            Ok(()) | Err(Refusal::ArmedAlready | Refusal::NothingWanted) => {}
             Err(refusal) => return Err(refusal),
         }
     }
@@ -37,35 +36,24 @@ fn print_run(rt: &HostRuntime, bus: &mut HeadBus) -> Result<(), Fault> {
     Ok(())
 }
 
-fn print_last(rt: &HostRuntime, number: u8, last: Option<Outcome>) -> Result<(), Fault> {
-    if let Some(outcome) = last {
-        let text = outcome_text(rt.alloc(), &outcome)?;
-        println!(rt; "master {number}: {text}")?;
+// Takes the head apart, and prints the last outcomes and the registers.
+fn print_end(rt: &HostRuntime, bus: HeadBus) -> Result<(), Fault> {
+    let ((logger, (alarm_unit, (service_port, End))), (registers, _queues)) = bus.close();
+    let told = [
+        logger.into_host().last(),
+        alarm_unit.into_host().last(),
+        service_port.into_host().last(),
+    ];
+    for (number, last) in told.iter().enumerate() {
+        if let Some(outcome) = last {
+            let text = outcome_text(rt.alloc(), outcome)?;
+            println!(rt; "master {number}: {text}")?;
+        }
     }
-    Ok(())
-}
-
-fn print_registers(rt: &HostRuntime, registers: &RegisterFile) -> Result<(), Fault> {
+    let registers = registers.into_device().into_device();
     let text = bytes_text(rt.alloc(), &registers.bytes())?;
     println!(rt; "registers:{text}")?;
     Ok(())
-}
-
-// Takes the head apart, and prints the last outcomes and the registers.
-fn print_end(rt: &HostRuntime, bus: HeadBus) -> Result<(), Fault> {
-    let (masters, ports) = bus.close();
-    let (logger, (alarm_unit, (service_port, End))) = masters;
-    let (registers, (slow_events, (events, End))) = ports;
-    let logger = logger.into_host();
-    let alarm_unit = alarm_unit.into_host();
-    let service_port = service_port.into_host();
-    let registers = registers.into_device().into_device();
-    let _ = slow_events.into_device();
-    let _ = events.into_device();
-    print_last(rt, 0, logger.last())?;
-    print_last(rt, 1, alarm_unit.last())?;
-    print_last(rt, 2, service_port.last())?;
-    print_registers(rt, &registers)
 }
 
 pub fn run(rt: &HostRuntime) -> Result<(), Fault> {
