@@ -3,13 +3,10 @@ use device::RegisterFile;
 use host::PollHost;
 use master::Master;
 use port::Port;
-use transfer::{Address, ClockPair, Draft, Refusal};
-
-pub type One<B> = (Master<PollHost>, B);
+use transfer::{Address, ClockPair, Refusal};
+use workload::writer;
 
 pub type Two<B> = (Master<PollHost>, (Master<PollHost>, B));
-
-pub type File<B> = (Port<RegisterFile>, B);
 
 pub type Four<B> = (
     Port<RegisterFile>,
@@ -20,44 +17,35 @@ pub type Four<B> = (
 );
 
 // All masters write to the first register file.
-pub const FIRST: u8 = 0x50;
+pub const FIRST: u32 = 0x50;
 
-// A host that writes 03 and `byte`. A write reads nothing, so no outcome meets the mask, and it wants for ever.
-fn writer(byte: u8) -> Result<PollHost, Refusal> {
-    let mut draft = Draft::new(Address::new(u32::from(FIRST))?);
-    draft.write(&[0x03, byte])?;
-    Ok(PollHost::new(draft.seal(), 0xFF))
+fn master(clock: ClockPair, byte: u8) -> Result<Master<PollHost>, Refusal> {
+    Ok(Master::new(clock, writer(Address::new(FIRST)?, byte)?))
 }
 
-fn quick() -> Result<Master<PollHost>, Refusal> {
-    Ok(Master::new(ClockPair::new(1, 1)?, writer(0x12)?))
+pub fn quick() -> Result<Master<PollHost>, Refusal> {
+    master(ClockPair::new(1, 1)?, 0x12)
 }
 
 fn slow() -> Result<Master<PollHost>, Refusal> {
-    Ok(Master::new(ClockPair::new(2, 1)?, writer(0x10)?))
+    master(ClockPair::new(2, 1)?, 0x10)
 }
 
-fn file_at(address: u8) -> Result<Port<RegisterFile>, Refusal> {
-    Ok(Port::new(Address::new(u32::from(address))?, RegisterFile::new()))
+pub fn file(address: u32) -> Result<Port<RegisterFile>, Refusal> {
+    Ok(Port::new(Address::new(address)?, RegisterFile::new()))
 }
 
-pub fn one<B: Drop>(rest: B) -> Result<One<B>, Refusal> {
-    Ok((quick()?, rest))
-}
-
+// Two masters at odds.
 pub fn two<B: Drop>(rest: B) -> Result<Two<B>, Refusal> {
     Ok((quick()?, (slow()?, rest)))
 }
 
-pub fn file<B: Drop>(address: u8, rest: B) -> Result<File<B>, Refusal> {
-    Ok((file_at(address)?, rest))
-}
-
-// Four files from this address on.
-pub fn four<B: Drop>(address: u8, rest: B) -> Result<Four<B>, Refusal> {
-    let first = file_at(address)?;
-    let second = file_at(address.saturating_add(1))?;
-    let third = file_at(address.saturating_add(2))?;
-    let fourth = file_at(address.saturating_add(3))?;
+// Four files, at the addresses of this block of four.
+pub fn four<B: Drop>(block: u8, rest: B) -> Result<Four<B>, Refusal> {
+    let address = FIRST + 4 * u32::from(block);
+    let first = file(address)?;
+    let second = file(address + 1)?;
+    let third = file(address + 2)?;
+    let fourth = file(address + 3)?;
     Ok((first, (second, (third, (fourth, rest)))))
 }

@@ -1,11 +1,10 @@
 // Ticks a bus of 1, 2, 4 or 8 masters and 1, 4 or 16 ports, as often as standard input says, and counts the outcomes.
 #![tactic(auto)]
 
-use work::Work;
+use sizes::Work;
 
 mod banks;
 mod sizes;
-mod work;
 
 // The line has the ticks, the masters and the ports.
 fn main(rt: HostRuntime) -> anyhow::Result<()> {

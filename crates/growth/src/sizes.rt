@@ -1,85 +1,51 @@
-// A bus of each size, put together a few parts at a time, so that no proof has more than four before it.
-ghost use Rattle.std.specs.Prelude.{◌≤◌, length};
+// A bus of each size.
+ghost use Rattle.std.specs.Prelude.{◌≡◌, ◌≤◌, ◌&&◌, length, is_some, IfOk};
+ghost use Rattle.growth.specs.Sizes.{is_masters, is_ports};
 
-use crate::banks::{FIRST, file, four, one, two};
-use crate::work::{Work, outcomes};
-use exchange::{End, Masters, Ports};
+use crate::banks::{FIRST, file, four, quick, two};
+use exchange::{Bus, End, Masters, Ports};
 use transfer::Refusal;
+use workload::count_outcomes;
 
-fn four_files<M: Masters + Drop, P: Ports + Drop>(
-    work: Work,
-    masters: M,
-    rest: P,
-) -> Result<u64, Refusal>
-    requires some_master { 1 ≤ length M.Masters.hosts }
-    requires few_masters { length M.Masters.hosts ≤ 8 }
-    requires few_ports { length P.Ports.devices ≤ 12 }
-{
-    Ok(outcomes(work, masters, four(FIRST, rest)?))
+#[derive(Clone, Copy)]
+pub struct Work {
+    pub ticks: u64,
+    pub masters: u8,
+    pub ports: u8,
 }
 
-fn eight_files<M: Masters + Drop, P: Ports + Drop>(
-    work: Work,
-    masters: M,
-    rest: P,
-) -> Result<u64, Refusal>
-    requires some_master { 1 ≤ length M.Masters.hosts }
-    requires few_masters { length M.Masters.hosts ≤ 8 }
-    requires few_ports { length P.Ports.devices ≤ 8 }
-{
-    four_files(work, masters, four(FIRST + 4, rest)?)
-}
-
-fn twelve_files<M: Masters + Drop, P: Ports + Drop>(
-    work: Work,
-    masters: M,
-    rest: P,
-) -> Result<u64, Refusal>
-    requires some_master { 1 ≤ length M.Masters.hosts }
-    requires few_masters { length M.Masters.hosts ≤ 8 }
-    requires few_ports { length P.Ports.devices ≤ 4 }
-{
-    eight_files(work, masters, four(FIRST + 8, rest)?)
+fn count<M: Masters + Drop, P: Ports + Drop>(work: Work, mut bus: Bus<M, P>) -> u64 {
+    let count = count_outcomes(&mut bus, usize::from(work.masters), work.ticks);
+    let _ = bus.close();
+    count
 }
 
 fn with_ports<M: Masters + Drop>(work: Work, masters: M) -> Result<Option<u64>, Refusal>
     requires some_master { 1 ≤ length M.Masters.hosts }
     requires few_masters { length M.Masters.hosts ≤ 8 }
+    ensures { IfOk result (λ count. is_some count ≡ is_ports work.ports) }
 {
     let count = match work.ports {
-        1 => outcomes(work, masters, file(FIRST, End)?),
-        4 => four_files(work, masters, End)?,
-        16 => twelve_files(work, masters, four(FIRST + 12, End)?)?,
+        1 => count(work, Bus::new(masters, (file(FIRST)?, End))),
+        4 => count(work, Bus::new(masters, four(0, End)?)),
+        16 => {
+            let files = four(0, four(1, four(2, four(3, End)?)?)?)?;
+            count(work, Bus::new(masters, files))
+        }
         _ => return Ok(None),
     };
     Ok(Some(count))
 }
 
-fn two_masters<M: Masters + Drop>(work: Work, rest: M) -> Result<Option<u64>, Refusal>
-    requires { length M.Masters.hosts ≤ 6 }
-{
-    with_ports(work, two(rest)?)
-}
-
-fn four_masters<M: Masters + Drop>(work: Work, rest: M) -> Result<Option<u64>, Refusal>
-    requires { length M.Masters.hosts ≤ 4 }
-{
-    two_masters(work, two(rest)?)
-}
-
-fn six_masters<M: Masters + Drop>(work: Work, rest: M) -> Result<Option<u64>, Refusal>
-    requires { length M.Masters.hosts ≤ 2 }
-{
-    four_masters(work, two(rest)?)
-}
-
 // None where there is no bus of this size.
-pub fn measure(work: Work) -> Result<Option<u64>, Refusal> {
+pub fn measure(work: Work) -> Result<Option<u64>, Refusal>
+    ensures { IfOk result (λ count. is_some count ≡ (is_masters work.masters && is_ports work.ports)) }
+{
     match work.masters {
-        1 => with_ports(work, one(End)?),
-        2 => two_masters(work, End),
-        4 => four_masters(work, End),
-        8 => six_masters(work, two(End)?),
+        1 => with_ports(work, (quick()?, End)),
+        2 => with_ports(work, two(End)?),
+        4 => with_ports(work, two(two(End)?)?),
+        8 => with_ports(work, two(two(two(two(End)?)?)?)?),
         _ => Ok(None),
     }
 }

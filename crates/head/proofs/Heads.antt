@@ -1,9 +1,8 @@
 -- The head put together from its parts.
-use Rattle.std.proofs.Common.{◌≡◌, ℕ, Ok, Result, ap, ◌∙◌}
-use Rattle.device.specs.Behaviours.{Behaviour}
-use Rattle.device.specs.BusyLayers.{busy_over}
+use Rattle.std.proofs.Common.{◌≡◌, ℕ, false, List, Ok, Result}
+use Rattle.device.specs.BusyLayers.{Busied, busy_over}
 use Rattle.device.specs.EventQueues.{event_queue}
-use Rattle.device.specs.RegisterFiles.{register_file}
+use Rattle.device.specs.RegisterFiles.{Registers, register_file, new_registers}
 use Rattle.host.specs.Behaviours.{HostBehaviour}
 use Rattle.host.specs.ListHosts.{Listed, list_host}
 use Rattle.host.specs.PollHosts.{Polled, poll_host}
@@ -12,22 +11,28 @@ use Rattle.master.specs.Serving.{Served}
 use Rattle.port.specs.Ports.{PortModel, new_port}
 use Rattle.head.specs.Setups.{serving, idle_registers, slow_queue, quick_queue, head_hosts, head_devices, head}
 
-pub ok_same : {X : Type 0} (r : Result X ℕ) (x y : X) → r ≡ Ok x → r ≡ Ok y → x ≡ y
-ok_same r x y e q = cc
+pub same : {X : Type 0} {x y : X} → ◌≡◌ {A = Result X ℕ} (Ok x) (Ok y) → x ≡ y
+same e = cc
 
--- a master whose clock counts are known
-pub serves : (h : HostBehaviour) (x : Served h) (low high : ℕ) (counts : ℕ × ℕ) (m : h.Meaning) →
-    x ≡ serving h low high m → (low, high) ≡ counts → x ≡ serving h counts.0 counts.1 m
-serves h x low high counts m e known = e ∙ ap (λ c. serving h c.0 c.1 m) known
+-- what is made at a known address
+pub at : {X : Type 0} (make : ℕ → Result X ℕ) (x y : X) (address known : ℕ) → Ok x ≡ make address → address ≡ known → make known ≡ Ok y → x ≡ y
+at make x y address known e is made_there = cc
 
--- a port whose address and device are known
-pub port_is : (b : Behaviour) (p : PortModel b) (a n : ℕ) (m d : b.Meaning) → p ≡ new_port b a m → a ≡ n → m ≡ d → p ≡ new_port b n d
-port_is b p a n m d e at is = e ∙ (ap (λ x. new_port b x m) at ∙ ap (new_port b n) is)
+-- a master whose clock counts and host are known
+pub serves : (h : HostBehaviour) (x : Served h) (counts known : ℕ × ℕ) (m n : h.Meaning) →
+    x ≡ serving h counts.0 counts.1 m → counts ≡ known → m ≡ n → x ≡ serving h known.0 known.1 n
+serves h x counts known m n e at is = cc
+
+-- the register file's layer, by the file below it
+pub idle_is : (m : Busied register_file) (f : Registers) → m ≡ record { number = 1; left = 0; inside = false; wrote = false; below = f } → f ≡ new_registers → m ≡ idle_registers
+idle_is m f e is_new = cc
 
 pub head_is : (u : BusModel head_hosts head_devices) (x : Served list_host) (y : Served poll_host) (z : Served list_host)
-    (p : PortModel (busy_over register_file)) (q r : PortModel event_queue) (a : Listed) (b : Polled) (c : Listed) →
+    (p : PortModel (busy_over register_file)) (q r : PortModel event_queue) (registers events : ℕ)
+    (file : Busied register_file) (slow quick : List ℕ) (a : Listed) (b : Polled) (c : Listed) →
     u ≡ made head_hosts head_devices (x, (y, (z, tt))) (p, (q, (r, tt))) →
     x ≡ serving list_host 2 2 a → y ≡ serving poll_host 1 3 b → z ≡ serving list_host 3 1 c →
-    p ≡ new_port (busy_over register_file) 80 idle_registers → q ≡ new_port event_queue 81 slow_queue → r ≡ new_port event_queue 81 quick_queue →
+    p ≡ new_port (busy_over register_file) registers file → q ≡ new_port event_queue events slow → r ≡ new_port event_queue events quick →
+    registers ≡ 80 → events ≡ 81 → file ≡ idle_registers → slow ≡ slow_queue → quick ≡ quick_queue →
     u ≡ head a b c
-head_is u x y z p q r a b c of_parts first second third registers slow quick = of_parts ∙ rw (first, second, third, registers, slow, quick)
+head_is u x y z p q r registers events file slow quick a b c e first second third port slow_port quick_port at_80 at_81 idle slow_is quick_is = cc

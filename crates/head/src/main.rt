@@ -5,7 +5,6 @@ use fault::Fault;
 
 mod run;
 mod setup;
-mod transfers;
 
 fn main(rt: HostRuntime) -> Result<(), Fault> {
     run::run(&rt)

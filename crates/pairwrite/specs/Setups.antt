@@ -4,7 +4,7 @@ use Rattle.transfer.specs.declared.draft.Transfer.{Transfer}
 use Rattle.transfer.specs.Drafts.{TransferModel, transfer_model}
 use Rattle.transfer.specs.Legs.{writes}
 use Rattle.device.specs.declared.register_file.RegisterFile.{RegisterFile}
-use Rattle.device.specs.RegisterFiles.{registers, register_file, new_registers}
+use Rattle.device.specs.RegisterFiles.{register_file, new_registers}
 use Rattle.host.specs.declared.list_host.ListHost.{ListHost}
 use Rattle.host.specs.ListHosts.{Listed, listed, list_host}
 use Rattle.exchange.specs.declared.bank.End.{End}
@@ -12,10 +12,10 @@ use Rattle.exchange.specs.declared.bus.Bus.{Bus}
 use Rattle.master.specs.declared.master.Master.{Master}
 use Rattle.port.specs.declared.port.Port.{Port}
 use Rattle.law.specs.Buses.{BusModel, made}
-use Rattle.master.specs.Serving.{Served, served}
+use Rattle.master.specs.Serving.{Served}
 use Rattle.master.specs.Masters.{new_master}
-use Rattle.exchange.specs.Parts.{bus_model}
-use Rattle.port.specs.Ports.{port_model, new_port}
+use Rattle.parts.specs.Pairs as pairs
+use Rattle.port.specs.Ports.{new_port}
 use Rattle.master.specs.Scripts.{transfers}
 
 -- register 3 of the file at address 80
@@ -26,16 +26,11 @@ register_write byte = record { first = record { address = 80; body = writes (3 �
 abbrev pub Wants : ℕ → Listed → Type 0
 Wants byte m = (t : Transfer) × (transfer_model t ≡ register_write byte) × (m ≡ record { rest = t ∷ []; last = None })
 
-abbrev pub master_of : Master ListHost → Served list_host
-master_of m = served list_host listed m
-
 abbrev pub serving : ℕ → ℕ → Listed → Served list_host
 serving low high m = record { master = new_master transfers low high; meaning = m }
 
 abbrev pub pair_model : Bus (Master ListHost × (Master ListHost × End)) (Port RegisterFile × End) → BusModel (list_host ∷ list_host ∷ []) (register_file ∷ [])
-pair_model u =
-    bus_model (list_host ∷ list_host ∷ []) (λ m. (master_of m.0, (master_of m.1.0, tt)))
-    (register_file ∷ []) (λ p. (port_model register_file registers p.0, tt)) u
+pair_model u = pairs.pair_model list_host listed u
 
 -- clock counts 1 and 1 for the first master, 2 and 1 for the second
 abbrev pub pair : Listed → Listed → BusModel (list_host ∷ list_host ∷ []) (register_file ∷ [])

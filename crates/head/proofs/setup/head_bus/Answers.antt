@@ -1,10 +1,20 @@
-use Rattle.head.proofs.Heads.{head_is}
+use Rattle.std.proofs.Common.{ap, ◌∙◌}
+use Rattle.device.specs.EventQueues.{queued}
+use Rattle.head.proofs.Heads.{same, idle_is, head_is}
 use Rattle.head.proofs.setup.head_bus.Goals as goal
 
 pub returns : goal.returns
 returns c =
-    let a = c.in_ok-first.ensures in
-    let b = c.in_ok-second.ensures in
-    let d = c.in_ok-third.ensures in
-    let all = head_is _ _ _ _ _ _ _ a.0 b.0 d.0 c.new.ensures.made a.2 b.2 d.2 c.in_ok-registers.ensures c.in_ok-slow.ensures c.in_ok-quick.ensures in
-    (a.0, b.0, d.0, a.1, b.1, d.1, all)
+    let (a, lists, first) = c.in_ok-logger.ensures in
+    let (b, polls, second) = c.in_ok-alarm_unit.ensures in
+    let (d, more, third) = c.in_ok-service_port.ensures in (
+      a,
+      b,
+      d,
+      lists,
+      polls,
+      more,
+      head_is _ _ _ _ _ _ _ _ _ _ _ _ a b d c.new-8.ensures.made first second third c.new-5.ensures c.new-6.ensures c.new-7.ensures
+          (same c.in_ok-registers.ensures) (same c.in_ok-events.ensures) (idle_is _ _ c.new-4.ensures c.new-3.ensures)
+          (ap (λ s. queued s.device) c.new-slow.ensures ∙ same c.in_ok-queue_of.ensures) (same c.in_ok-quick.ensures),
+    )

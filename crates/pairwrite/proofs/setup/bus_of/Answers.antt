@@ -1,16 +1,32 @@
-use Rattle.std.proofs.Common.{refl}
-use Rattle.host.specs.ListHosts.{listed}
-use Rattle.pairwrite.proofs.Pairs.{ok_same, serves, port_is, pair_is}
+use Rattle.std.proofs.Common.{◌≡◌, ℕ, [], ◌∷◌, None, Ok, Result, refl}
+use Rattle.transfer.specs.Drafts.{TransferModel}
+use Rattle.transfer.specs.Wholes.{one_write}
+use Rattle.device.specs.RegisterFiles.{register_file, new_registers}
+use Rattle.host.specs.ListHosts.{Listed, list_host}
+use Rattle.law.specs.Buses.{BusModel, made}
+use Rattle.port.specs.Ports.{new_port}
+use Rattle.pairwrite.specs.Setups.{register_write, serving, pair}
 use Rattle.pairwrite.proofs.setup.bus_of.Goals as goal
+
+same : {X : Type 0} {x y : X} → ◌≡◌ {A = Result X ℕ} (Ok x) (Ok y) → x ≡ y
+same e = cc
+
+write_is : (t : TransferModel) (a byte : ℕ) → Ok t ≡ one_write a (3 ∷ byte ∷ []) → a ≡ 80 → t ≡ register_write byte
+write_is t a byte e at_80 = cc
+
+pair_is : (u : BusModel (list_host ∷ list_host ∷ []) (register_file ∷ [])) (a : ℕ) (x y : ℕ × ℕ) (m n m' n' : Listed) →
+    u ≡ made (list_host ∷ list_host ∷ []) (register_file ∷ []) (serving x.0 x.1 m, (serving y.0 y.1 n, tt)) (new_port register_file a new_registers, tt) →
+    a ≡ 80 → x ≡ (1, 1) → y ≡ (2, 1) → m ≡ m' → n ≡ n' → u ≡ pair m' n'
+pair_is u a x y m n m' n' e at_80 quick slow first second = cc
 
 pub returns : goal.returns
 returns c =
-    let m = listed c.in_ok-first_host.first_host in
-    let n = listed c.in_ok-second_host.second_host in
-    let quick = ok_same _ _ _ refl c.in_ok-quick.ensures in
-    let slow = ok_same _ _ _ refl c.in_ok-slow.ensures in
-    let at_80 = ok_same _ _ _ refl c.in_ok-address.ensures in
-    let first = serves _ _ _ _ m c.new-4.ensures quick in
-    let second = serves _ _ _ _ n c.new-5.ensures slow in
-    let port = port_is _ _ _ c.new-7.ensures at_80 c.new-6.ensures in
-    (m, n, c.in_ok-first_host.ensures, c.in_ok-second_host.ensures, pair_is _ _ _ _ m n c.new-8.ensures.made first second port)
+    let t = c.in_ok-first.first in
+    let u = c.in_ok-second.second in
+    let at_80 = same c.in_ok-address.ensures in (
+      record { rest = t ∷ []; last = None },
+      record { rest = u ∷ []; last = None },
+      (t, write_is _ _ _ c.in_ok-first.ensures at_80, refl),
+      (u, write_is _ _ _ c.in_ok-second.ensures at_80, refl),
+      pair_is _ _ _ _ _ _ _ _ c.pair_bus.ensures at_80 (same c.in_ok-new.ensures) (same c.in_ok-new-2.ensures) (same c.in_ok-list_of.ensures) (same c.in_ok-list_of-2.ensures),
+    )

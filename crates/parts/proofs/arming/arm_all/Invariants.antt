@@ -1,0 +1,10 @@
+use Rattle.std.proofs.Common.{◌≡◌}
+use Rattle.exchange.specs.Parts.{bus_model}
+use Rattle.parts.specs.Arms.{all_armed}
+use Rattle.parts.proofs.arming.arm_all.Given as goal
+
+abbrev pub invariant-loop-master : goal.invariant-loop-master
+invariant-loop-master g l =
+    let hs = g.M.Masters.hosts in
+    let ds = g.P.Ports.devices in
+    bus_model hs g.M.Masters.stand ds g.P.Ports.stand l.bus ≡ all_armed hs ds l.master (bus_model hs g.M.Masters.stand ds g.P.Ports.stand l.initial.bus)

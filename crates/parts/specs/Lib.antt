@@ -1,0 +1,3 @@
+pub mod Filled
+pub mod Pairs
+pub mod Arms

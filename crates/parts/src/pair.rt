@@ -1,0 +1,29 @@
+// A bus of two masters, each at a clock of its own, and a register file.
+ghost use Rattle.std.specs.Prelude.{◌≡◌};
+ghost use Rattle.parts.specs.Pairs.{pair_model, pair_made};
+
+use device::RegisterFile;
+use exchange::{Bus, End};
+use host::Host;
+use master::Master;
+use port::Port;
+use transfer::{Address, ClockPair};
+
+pub type PairBus<H> = Bus<(Master<H>, (Master<H>, End)), (Port<RegisterFile>, End)>;
+
+// The clock pairs of the two masters.
+#[derive(Clone, Copy)]
+pub struct Clocks {
+    pub first: ClockPair,
+    pub second: ClockPair,
+}
+
+// The masters serve these hosts, and the register file has this address.
+pub fn pair_bus<H: Host + Drop>(address: Address, clocks: Clocks, first: H, second: H) -> PairBus<H>
+    ensures { pair_model H.Host.behaviour H.Host.means result ≡ pair_made H.Host.behaviour address.number clocks (H.Host.means first) (H.Host.means second) }
+{
+    let first = Master::new(clocks.first, first);
+    let second = Master::new(clocks.second, second);
+    let registers = Port::new(address, RegisterFile::new());
+    Bus::new((first, (second, End)), (registers, End))
+}

@@ -1,0 +1,33 @@
+// Ticks and their lines.
+ghost use Rattle.std.specs.Prelude.{◌≡◌, ℕ, ◌≤◌, ◌⊎◌, true, IfOk};
+ghost use Rattle.exchange.specs.Parts.{bus_model};
+ghost use Rattle.law.specs.Buses.{is_at_rest};
+ghost use Rattle.printing.specs.Runs.{Ran};
+
+use exchange::{Bus, Masters, Ports};
+use fault::Fault;
+use listing::Listing;
+use parts::arm_all;
+
+// Arms the first `masters` masters before each tick, and prints what the tick shows, until the bus is at rest all the
+// same. After a fault the bus stands after the tick that was not printed, its masters armed.
+pub fn print_run<M: Masters, P: Ports>(
+    rt: &HostRuntime,
+    bus: &mut Bus<M, P>,
+    masters: usize,
+    most_ticks: u32,
+) -> Result<(), Fault>
+    ensures { (n : ℕ) × (n ≤ most_ticks) × Ran M.Masters.hosts P.Ports.devices masters n (bus_model M.Masters.hosts M.Masters.stand P.Ports.devices P.Ports.stand bus.old) (bus_model M.Masters.hosts M.Masters.stand P.Ports.devices P.Ports.stand bus.new) × IfOk result (λ u. (n ≡ most_ticks) ⊎ (is_at_rest M.Masters.hosts P.Ports.devices (bus_model M.Masters.hosts M.Masters.stand P.Ports.devices P.Ports.stand bus.new) ≡ true)) }
+{
+    let mut listing = Listing::new();
+    arm_all(bus, masters);
+    for _made in 0..most_ticks {
+        if bus.at_rest() {
+            return Ok(());
+        }
+        let tick = bus.tick();
+        arm_all(bus, masters);
+        rt.print(listing.step(&tick).text(rt.alloc())?)?;
+    }
+    Ok(())
+}

@@ -1,0 +1,42 @@
+// The loop that is measured.
+ghost use Rattle.std.specs.Prelude.{◌≡◌};
+ghost use Rattle.exchange.specs.Parts.{bus_model};
+ghost use Rattle.law.specs.Buses.{Holds, tick_at};
+ghost use Rattle.law.specs.Runs.{tolds};
+ghost use Rattle.workload.specs.Works.{counted, readied, Worked};
+
+use exchange::{Bus, Event, Masters, Ports, Tick};
+use parts::arm_all;
+
+// Ticks so often, arms the first `masters` masters again whenever the bus is at rest, and counts the outcomes told.
+pub fn count_outcomes<M: Masters, P: Ports>(bus: &mut Bus<M, P>, masters: usize, ticks: u64) -> u64
+    ensures { Worked M.Masters.hosts P.Ports.devices masters ticks (bus_model M.Masters.hosts M.Masters.stand P.Ports.devices P.Ports.stand bus.old) result (bus_model M.Masters.hosts M.Masters.stand P.Ports.devices P.Ports.stand bus.new) }
+{
+    let mut count = 0;
+    for _made in 0..ticks {
+        ready(bus, masters);
+        count = counted(count, &bus.tick());
+    }
+    count
+}
+
+#[inline]
+fn ready<M: Masters, P: Ports>(bus: &mut Bus<M, P>, masters: usize)
+    ensures { bus_model M.Masters.hosts M.Masters.stand P.Ports.devices P.Ports.stand bus.new ≡ readied M.Masters.hosts P.Ports.devices masters (bus_model M.Masters.hosts M.Masters.stand P.Ports.devices P.Ports.stand bus.old) }
+{
+    if bus.at_rest() {
+        arm_all(bus, masters);
+    }
+}
+
+// Outcomes are told at a stop, and at no other event.
+#[inline]
+fn counted(count: u64, tick: &Tick) -> u64
+    ensures { result ≡ counted tick.now.event count (tolds tick.now.marks) }
+{
+    if tick.event == Event::Stop {
+        count.saturating_add(u64::from(tick.outcomes()))
+    } else {
+        count
+    }
+}
