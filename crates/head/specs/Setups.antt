@@ -3,28 +3,17 @@ use Rattle.std.specs.Prelude.{◌≡◌, ℕ, false, List, [], ◌∷◌, Some, 
 use Rattle.transfer.specs.declared.draft.Transfer.{Transfer}
 use Rattle.transfer.specs.Drafts.{TransferModel, transfer_model}
 use Rattle.transfer.specs.Legs.{LegModel, writes, reads}
-use Rattle.device.specs.declared.busy.Busy.{Busy}
-use Rattle.device.specs.declared.event_queue.EventQueue.{EventQueue}
-use Rattle.device.specs.declared.register_file.RegisterFile.{RegisterFile}
-use Rattle.device.specs.declared.slow.Slow.{Slow}
 use Rattle.device.specs.Behaviours.{Behaviour}
-use Rattle.device.specs.BusyLayers.{Busied, busy_over, busied}
-use Rattle.device.specs.EventQueues.{event_queue, queued}
-use Rattle.device.specs.RegisterFiles.{register_file, registers, new_registers}
+use Rattle.device.specs.BusyLayers.{Busied, busy_over}
+use Rattle.device.specs.EventQueues.{event_queue}
+use Rattle.device.specs.RegisterFiles.{register_file, new_registers}
 use Rattle.host.specs.Behaviours.{HostBehaviour}
-use Rattle.host.specs.declared.list_host.ListHost.{ListHost}
-use Rattle.host.specs.declared.poll_host.PollHost.{PollHost}
-use Rattle.host.specs.ListHosts.{Listed, listed, list_host}
-use Rattle.host.specs.PollHosts.{Polled, polled, poll_host}
-use Rattle.exchange.specs.declared.bank.End.{End}
-use Rattle.exchange.specs.declared.bus.Bus.{Bus}
-use Rattle.master.specs.declared.master.Master.{Master}
-use Rattle.port.specs.declared.port.Port.{Port}
+use Rattle.host.specs.ListHosts.{Listed, list_host}
+use Rattle.host.specs.PollHosts.{Polled, poll_host}
 use Rattle.law.specs.Buses.{BusModel, made}
-use Rattle.master.specs.Serving.{Served, served}
+use Rattle.master.specs.Serving.{Served}
 use Rattle.master.specs.Masters.{new_master}
-use Rattle.exchange.specs.Parts.{bus_model}
-use Rattle.port.specs.Ports.{PortModel, port_model, new_port}
+use Rattle.port.specs.Ports.{new_port}
 use Rattle.master.specs.Scripts.{transfers}
 
 abbrev pub write_to : ℕ → List ℕ → LegModel
@@ -62,20 +51,11 @@ Polls a m = (t : Transfer) × (transfer_model t ≡ a) × (m ≡ record { transf
 abbrev pub serving : (h : HostBehaviour) → ℕ → ℕ → h.Meaning → Served h
 serving h low high m = record { master = new_master transfers low high; meaning = m }
 
-abbrev pub ListsAt : ℕ → ℕ → TransferModel → TransferModel → Master ListHost → Type 0
-ListsAt low high a b x = (m : Listed) × Lists a b m × (served list_host listed x ≡ serving list_host low high m)
+abbrev pub ListsAt : ℕ → ℕ → TransferModel → TransferModel → Served list_host → Type 0
+ListsAt low high a b x = (m : Listed) × Lists a b m × (x ≡ serving list_host low high m)
 
-abbrev pub PollsAt : ℕ → ℕ → TransferModel → Master PollHost → Type 0
-PollsAt low high a x = (m : Polled) × Polls a m × (served poll_host polled x ≡ serving poll_host low high m)
-
-abbrev pub registers_port : Port (Busy RegisterFile) → PortModel (busy_over register_file)
-registers_port p = port_model (busy_over register_file) (busied register_file registers) p
-
-abbrev pub slow_port : Port (Slow EventQueue) → PortModel event_queue
-slow_port p = port_model event_queue (λ s. queued s.device) p
-
-abbrev pub quick_port : Port EventQueue → PortModel event_queue
-quick_port p = port_model event_queue queued p
+abbrev pub PollsAt : ℕ → ℕ → TransferModel → Served poll_host → Type 0
+PollsAt low high a x = (m : Polled) × Polls a m × (x ≡ serving poll_host low high m)
 
 -- not busy yet, and busy for one select after a write
 abbrev pub idle_registers : Busied register_file
@@ -93,15 +73,6 @@ head_hosts = list_host ∷ poll_host ∷ list_host ∷ []
 abbrev pub head_devices : List Behaviour
 head_devices = busy_over register_file ∷ event_queue ∷ event_queue ∷ []
 
--- the bus as it is typed in the code
-abbrev pub Whole : Type 0
-Whole = Bus (Master ListHost × (Master PollHost × (Master ListHost × End))) (Port (Busy RegisterFile) × (Port (Slow EventQueue) × (Port EventQueue × End)))
-
-abbrev pub head_model : Whole → BusModel head_hosts head_devices
-head_model u =
-    bus_model head_hosts (λ m. (served list_host listed m.0, (served poll_host polled m.1.0, (served list_host listed m.1.1.0, tt))))
-    head_devices (λ p. (registers_port p.0, (slow_port p.1.0, (quick_port p.1.1.0, tt)))) u
-
 -- the two queues have one address
 abbrev pub head : Listed → Polled → Listed → BusModel head_hosts head_devices
 head a b c =
@@ -109,5 +80,5 @@ head a b c =
     (new_port (busy_over register_file) 80 idle_registers, (new_port event_queue 81 slow_queue, (new_port event_queue 81 quick_queue, tt)))
 
 -- each master at its clock, each host with what it wants, each device as it is made
-abbrev pub IsHead : Whole → Type 0
-IsHead u = (a : Listed) × (b : Polled) × (c : Listed) × Lists log_write log_read a × Polls event_read b × Lists service_write probe_write c × (head_model u ≡ head a b c)
+abbrev pub IsHead : BusModel head_hosts head_devices → Type 0
+IsHead u = (a : Listed) × (b : Polled) × (c : Listed) × Lists log_write log_read a × Polls event_read b × Lists service_write probe_write c × (u ≡ head a b c)

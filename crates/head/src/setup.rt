@@ -1,10 +1,12 @@
 // The bus of the sensor head: a logger, an alarm unit and a service port, and the three devices that they share.
 ghost use Rattle.std.specs.Prelude.{◌≡◌, IfOk};
+ghost use Rattle.exchange.specs.Parts.{bus_model};
+ghost use Rattle.master.specs.Serving.{served};
 ghost use Rattle.head.specs.Setups.{log_write, log_read, event_read, service_write, probe_write, ListsAt, PollsAt, IsHead};
 
 use device::{Busy, EventQueue, RegisterFile, Slow};
 use exchange::{Bus, End};
-use host::{ListHost, PollHost};
+use host::{Host, ListHost, PollHost};
 use master::Master;
 use parts::{list_of, queue_of};
 use port::Port;
@@ -31,7 +33,7 @@ const EVENTS: u32 = 0x51;
 const NOBODY: u32 = 0x22;
 
 fn logger() -> Result<Master<ListHost>, Refusal>
-    ensures { IfOk result (ListsAt 2 2 log_write log_read) }
+    ensures { IfOk result (λ m. ListsAt 2 2 log_write log_read (served ⟦<ListHost as Host>⟧ m)) }
 {
     let clock = ClockPair::new(2, 2)?;
     let registers = Address::new(REGISTERS)?;
@@ -42,7 +44,7 @@ fn logger() -> Result<Master<ListHost>, Refusal>
 
 // It polls until an event has its highest bit set.
 fn alarm_unit() -> Result<Master<PollHost>, Refusal>
-    ensures { IfOk result (PollsAt 1 3 event_read) }
+    ensures { IfOk result (λ m. PollsAt 1 3 event_read (served ⟦<PollHost as Host>⟧ m)) }
 {
     let clock = ClockPair::new(1, 3)?;
     let read = Transfer::read(Address::new(EVENTS)?, 1)?;
@@ -50,7 +52,7 @@ fn alarm_unit() -> Result<Master<PollHost>, Refusal>
 }
 
 fn service_port() -> Result<Master<ListHost>, Refusal>
-    ensures { IfOk result (ListsAt 3 1 service_write probe_write) }
+    ensures { IfOk result (λ m. ListsAt 3 1 service_write probe_write (served ⟦<ListHost as Host>⟧ m)) }
 {
     let clock = ClockPair::new(3, 1)?;
     let write = Transfer::write(Address::new(REGISTERS)?, &[0x03, 0x7F])?;
@@ -59,7 +61,7 @@ fn service_port() -> Result<Master<ListHost>, Refusal>
 }
 
 pub fn head_bus() -> Result<HeadBus, Refusal>
-    ensures { IfOk result IsHead }
+    ensures { IfOk result (λ u. IsHead (bus_model u)) }
 {
     let masters = (logger()?, (alarm_unit()?, (service_port()?, End)));
     let registers = Address::new(REGISTERS)?;

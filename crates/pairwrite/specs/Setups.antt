@@ -3,18 +3,11 @@ use Rattle.std.specs.Prelude.{◌≡◌, ℕ, [], ◌∷◌, None}
 use Rattle.transfer.specs.declared.draft.Transfer.{Transfer}
 use Rattle.transfer.specs.Drafts.{TransferModel, transfer_model}
 use Rattle.transfer.specs.Legs.{writes}
-use Rattle.device.specs.declared.register_file.RegisterFile.{RegisterFile}
 use Rattle.device.specs.RegisterFiles.{register_file, new_registers}
-use Rattle.host.specs.declared.list_host.ListHost.{ListHost}
-use Rattle.host.specs.ListHosts.{Listed, listed, list_host}
-use Rattle.exchange.specs.declared.bank.End.{End}
-use Rattle.exchange.specs.declared.bus.Bus.{Bus}
-use Rattle.master.specs.declared.master.Master.{Master}
-use Rattle.port.specs.declared.port.Port.{Port}
+use Rattle.host.specs.ListHosts.{Listed, list_host}
 use Rattle.law.specs.Buses.{BusModel, made}
 use Rattle.master.specs.Serving.{Served}
 use Rattle.master.specs.Masters.{new_master}
-use Rattle.parts.specs.Pairs as pairs
 use Rattle.port.specs.Ports.{new_port}
 use Rattle.master.specs.Scripts.{transfers}
 
@@ -28,9 +21,6 @@ Wants byte m = (t : Transfer) × (transfer_model t ≡ register_write byte) × (
 
 abbrev pub serving : ℕ → ℕ → Listed → Served list_host
 serving low high m = record { master = new_master transfers low high; meaning = m }
-
-abbrev pub pair_model : Bus (Master ListHost × (Master ListHost × End)) (Port RegisterFile × End) → BusModel (list_host ∷ list_host ∷ []) (register_file ∷ [])
-pair_model u = pairs.pair_model list_host listed u
 
 -- clock counts 1 and 1 for the first master, 2 and 1 for the second
 abbrev pub pair : Listed → Listed → BusModel (list_host ∷ list_host ∷ []) (register_file ∷ [])

@@ -8,7 +8,7 @@ use exchange::{Bus, Masters, Ports};
 // Arms the first `masters` masters, the lowest first. One that is armed already, or whose host wants nothing, is left
 // as it is.
 pub fn arm_all<M: Masters, P: Ports>(bus: &mut Bus<M, P>, masters: usize)
-    ensures { bus_model M.Masters.hosts M.Masters.stand P.Ports.devices P.Ports.stand bus.new ≡ all_armed M.Masters.hosts P.Ports.devices masters (bus_model M.Masters.hosts M.Masters.stand P.Ports.devices P.Ports.stand bus.old) }
+    ensures { bus_model bus.new ≡ all_armed M.Masters.hosts P.Ports.devices masters (bus_model bus.old) }
 {
     for master in 0..masters {
         let _ = bus.arm(master);

@@ -1,6 +1,7 @@
 // A bus of two masters, each at a clock of its own, and a register file.
 ghost use Rattle.std.specs.Prelude.{◌≡◌};
-ghost use Rattle.parts.specs.Pairs.{pair_model, pair_made};
+ghost use Rattle.exchange.specs.Parts.{bus_model};
+ghost use Rattle.parts.specs.Pairs.{pair_made};
 
 use device::RegisterFile;
 use exchange::{Bus, End};
@@ -20,7 +21,7 @@ pub struct Clocks {
 
 // The masters serve these hosts, and the register file has this address.
 pub fn pair_bus<H: Host + Drop>(address: Address, clocks: Clocks, first: H, second: H) -> PairBus<H>
-    ensures { pair_model H.Host.behaviour H.Host.means result ≡ pair_made H.Host.behaviour address.number clocks (H.Host.means first) (H.Host.means second) }
+    ensures { bus_model result ≡ pair_made H.Host.behaviour address.number clocks (H.Host.means first) (H.Host.means second) }
 {
     let first = Master::new(clocks.first, first);
     let second = Master::new(clocks.second, second);

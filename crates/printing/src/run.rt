@@ -17,7 +17,7 @@ pub fn print_run<M: Masters, P: Ports>(
     masters: usize,
     most_ticks: u32,
 ) -> Result<(), Fault>
-    ensures { (n : ℕ) × (n ≤ most_ticks) × Ran M.Masters.hosts P.Ports.devices masters n (bus_model M.Masters.hosts M.Masters.stand P.Ports.devices P.Ports.stand bus.old) (bus_model M.Masters.hosts M.Masters.stand P.Ports.devices P.Ports.stand bus.new) × IfOk result (λ u. (n ≡ most_ticks) ⊎ (is_at_rest M.Masters.hosts P.Ports.devices (bus_model M.Masters.hosts M.Masters.stand P.Ports.devices P.Ports.stand bus.new) ≡ true)) }
+    ensures { (n : ℕ) × (n ≤ most_ticks) × Ran M.Masters.hosts P.Ports.devices masters n (bus_model bus.old) (bus_model bus.new) × IfOk result (λ u. (n ≡ most_ticks) ⊎ (is_at_rest M.Masters.hosts P.Ports.devices (bus_model bus.new) ≡ true)) }
 {
     let mut listing = Listing::new();
     arm_all(bus, masters);

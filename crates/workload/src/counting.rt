@@ -10,7 +10,7 @@ use parts::arm_all;
 
 // Ticks so often, arms the first `masters` masters again whenever the bus is at rest, and counts the outcomes told.
 pub fn count_outcomes<M: Masters, P: Ports>(bus: &mut Bus<M, P>, masters: usize, ticks: u64) -> u64
-    ensures { Worked M.Masters.hosts P.Ports.devices masters ticks (bus_model M.Masters.hosts M.Masters.stand P.Ports.devices P.Ports.stand bus.old) result (bus_model M.Masters.hosts M.Masters.stand P.Ports.devices P.Ports.stand bus.new) }
+    ensures { Worked M.Masters.hosts P.Ports.devices masters ticks (bus_model bus.old) result (bus_model bus.new) }
 {
     let mut count = 0;
     for _made in 0..ticks {
@@ -22,7 +22,7 @@ pub fn count_outcomes<M: Masters, P: Ports>(bus: &mut Bus<M, P>, masters: usize,
 
 #[inline]
 fn ready<M: Masters, P: Ports>(bus: &mut Bus<M, P>, masters: usize)
-    ensures { bus_model M.Masters.hosts M.Masters.stand P.Ports.devices P.Ports.stand bus.new ≡ readied M.Masters.hosts P.Ports.devices masters (bus_model M.Masters.hosts M.Masters.stand P.Ports.devices P.Ports.stand bus.old) }
+    ensures { bus_model bus.new ≡ readied M.Masters.hosts P.Ports.devices masters (bus_model bus.old) }
 {
     if bus.at_rest() {
         arm_all(bus, masters);

@@ -7,4 +7,4 @@ abbrev pub invariant-loop-master : goal.invariant-loop-master
 invariant-loop-master g l =
     let hs = g.M.Masters.hosts in
     let ds = g.P.Ports.devices in
-    bus_model hs g.M.Masters.stand ds g.P.Ports.stand l.bus ≡ all_armed hs ds l.master (bus_model hs g.M.Masters.stand ds g.P.Ports.stand l.initial.bus)
+    bus_model l.bus ≡ all_armed hs ds l.master (bus_model l.initial.bus)

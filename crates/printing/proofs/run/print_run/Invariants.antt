@@ -6,5 +6,4 @@ abbrev pub invariant-loop-made : goal.invariant-loop-made
 invariant-loop-made g l =
     let hs = g.M.Masters.hosts in
     let ds = g.P.Ports.devices in
-    let as_model = bus_model hs g.M.Masters.stand ds g.P.Ports.stand in
-    Ran hs ds l.masters l._made (as_model l.fn.bus) (as_model l.bus)
+    Ran hs ds l.masters l._made (bus_model l.fn.bus) (bus_model l.bus)
