@@ -3,10 +3,10 @@ use Rattle.std.specs.Prelude.{ℕ, suc, ◌+◌, ◌-◌, ◌^◌, min, Bool, tr
 use Rattle.law.specs.declared.tick.Tick.{Tick}
 use Rattle.wire.specs.declared.wire.Event.{Event}
 use Rattle.wire.specs.declared.wire.Event.TheVariants.{Rise, Fall, Start, Stop, SteadyHigh, SteadyLow}
-use Rattle.wire.specs.Octets.{shifted}
+use Rattle.wire.specs.declared.octet.Partial.{Partial}
+use Rattle.wire.specs.Octets.{shifted, part}
 use Rattle.wire.specs.Wires.{latched, counted}
 use Rattle.listing.specs.declared.listing.Listing.{Listing}
-use Rattle.listing.specs.declared.listing.Partial.{Partial}
 use Rattle.listing.specs.declared.marks.Acknowledge.{Acknowledge}
 use Rattle.listing.specs.declared.marks.Acknowledge.TheVariants as acknowledge
 use Rattle.listing.specs.declared.marks.Marks.{Marks}
@@ -14,7 +14,7 @@ use Rattle.listing.specs.declared.marks.WireMark.{WireMark}
 use Rattle.listing.specs.declared.marks.WireMark.TheVariants as mark
 
 abbrev pub no_bits : Partial
-no_bits = record { bits = 0; value = 0 }
+no_bits = part 0 0
 
 abbrev pub new_listing : Listing
 new_listing = record { ticks = 0; latch = record { level = None }; byte = no_bits }
@@ -27,7 +27,7 @@ acknowledge_of true = acknowledge.N
 -- a byte is eight bits, the highest first, and the ninth acknowledges it
 abbrev pub takes_bit : Partial → Bool → WireMark × Partial
 takes_bit p b = cond (nat_lt p.bits 8)
-    (mark.Quiet, record { bits = suc p.bits; value = shifted p.value b })
+    (mark.Quiet, part (suc p.bits) (shifted p.value b))
     (mark.Byte (record { value = p.value; acknowledge = acknowledge_of b }), no_bits)
 
 -- an event, with the bit that counts at it; a start or a stop begins afresh

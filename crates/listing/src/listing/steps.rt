@@ -1,35 +1,24 @@
 // How a listing begins, and what each tick shows.
 ghost use Rattle.std.specs.Prelude.{◌≡◌};
-ghost use Rattle.listing.specs.Listings.{new_listing, no_bits, takes_bit, listing_step};
+ghost use Rattle.listing.specs.Listings.{new_listing, takes_bit, listing_step};
 
-use super::{Listing, Partial};
+use super::Listing;
 use crate::marks::{ByteMark, Marks, WireMark};
 use law::Tick;
-use wire::{Event, Latch, shift_in};
+use wire::{Event, Latch, Partial};
 
-impl Partial {
-    fn none() -> Partial
-        ensures { result ≡ no_bits }
-    {
-        Partial { bits: 0, value: 0 }
+// The ninth bit acknowledges the eight before it.
+fn take_bit(byte: Partial, bit: bool) -> (WireMark, Partial)
+    ensures { result ≡ takes_bit byte bit }
+{
+    if byte.bits < 8 {
+        return (WireMark::Quiet, byte.received(bit));
     }
-
-    // The ninth bit acknowledges the eight before it.
-    fn take_bit(&mut self, bit: bool) -> WireMark
-        ensures { (result, self.new) ≡ takes_bit self.old bit }
-    {
-        if self.bits < 8 {
-            self.bits += 1;
-            self.value = shift_in(self.value, bit);
-            return WireMark::Quiet;
-        }
-        let value = self.value;
-        *self = Partial::none();
-        WireMark::Byte(ByteMark {
-            value,
-            acknowledge: bit.into(),
-        })
-    }
+    let mark = ByteMark {
+        value: byte.value,
+        acknowledge: bit.into(),
+    };
+    (WireMark::Byte(mark), Partial::of(0))
 }
 
 impl Listing {
@@ -40,7 +29,7 @@ impl Listing {
         Listing {
             ticks: 0,
             latch: Latch::new(),
-            byte: Partial::none(),
+            byte: Partial::of(0),
         }
     }
 
@@ -50,18 +39,13 @@ impl Listing {
     {
         self.ticks = self.ticks.saturating_add(1);
         let bit = self.latch.step(tick.event);
-        let wire = match (tick.event, bit) {
-            (Event::Start, _) => {
-                self.byte = Partial::none();
-                WireMark::Start
-            }
-            (Event::Stop, _) => {
-                self.byte = Partial::none();
-                WireMark::Stop
-            }
-            (Event::Fall, Some(bit)) => self.byte.take_bit(bit),
-            _ => WireMark::Quiet,
+        let (wire, byte) = match (tick.event, bit) {
+            (Event::Start, _) => (WireMark::Start, Partial::of(0)),
+            (Event::Stop, _) => (WireMark::Stop, Partial::of(0)),
+            (Event::Fall, Some(bit)) => take_bit(self.byte, bit),
+            _ => (WireMark::Quiet, self.byte),
         };
+        self.byte = byte;
         Marks {
             tick: self.ticks,
             wire,
