@@ -16,7 +16,7 @@ use Rattle.law.specs.Buses.{BusModel, made}
 use Rattle.master.specs.declared.master.Master.{Master}
 use Rattle.master.specs.Masters.{new_master}
 use Rattle.master.specs.Scripts.{transfers}
-use Rattle.master.specs.Serving.{Served, served}
+use Rattle.master.specs.Serving.{served}
 use Rattle.parts.specs.declared.pair.Clocks.{Clocks}
 use Rattle.port.specs.declared.port.Port.{Port}
 use Rattle.port.specs.Ports.{port_model, new_port}
