@@ -3,7 +3,7 @@ use crate::setup::{all_clocks, queue_bus};
 use exchange::{End, Event, Mark, Tick};
 use fault::Fault;
 use host::ListHost;
-use parts::{PairBus, arm_all, list_of, pair_bus};
+use parts::{Clocks, PairBus, arm_all, list_of, pair_bus};
 use std::fmt::{self, Display};
 use text::outcome_text;
 use transfer::{Address, Transfer};
@@ -39,15 +39,20 @@ fn first_stop(bus: &mut PairBus<ListHost>) -> Option<Tick> {
 }
 
 // One line for each choice of clocks. Each has a bus of its own, so that no run sees what another left behind.
-fn example(rt: &HostRuntime, name: &str, first: Transfer, second: Transfer) -> Result<(), Fault> {
+fn example(rt: &HostRuntime, name: &str, one: Transfer, other: Transfer) -> Result<(), Fault> {
     let address = Address::new(REGISTERS)?;
     for clocks in all_clocks()? {
-        let mut bus = pair_bus(address, clocks, list_of(&[first])?, list_of(&[second])?);
+        let mut bus = pair_bus(address, clocks, list_of(&[one])?, list_of(&[other])?);
         let told = Told(first_stop(&mut bus));
         let _ = bus.close();
-        let (low, high) = (clocks.first.low(), clocks.first.high());
-        let (other_low, other_high) = (clocks.second.low(), clocks.second.high());
-        println!(rt; "{name}, clocks {low} {high} and {other_low} {other_high}: told{told}")?;
+        let Clocks { first, second } = clocks;
+        println!(rt;
+            "{name}, clocks {} {} and {} {}: told{told}",
+            first.low(),
+            first.high(),
+            second.low(),
+            second.high()
+        )?;
     }
     Ok(())
 }

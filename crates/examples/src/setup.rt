@@ -1,4 +1,7 @@
 // The clocks of the examples, and the bus of two queues.
+ghost use Rattle.std.specs.Prelude.{◌≡◌, map, IfOk};
+ghost use Rattle.examples.specs.Setups.{counts, all_counts, IsQueues};
+
 use device::EventQueue;
 use exchange::{Bus, End};
 use host::ListHost;
@@ -13,7 +16,9 @@ pub type QueueBus = Bus<(Master<ListHost>, End), (Port<EventQueue>, (Port<EventQ
 const EVENTS: u32 = 0x51;
 
 // Alike, nearly alike, each slower in one count, and as far apart as can be: who wins must not depend on them.
-pub fn all_clocks() -> Result<[Clocks; 4], Refusal> {
+pub fn all_clocks() -> Result<[Clocks; 4], Refusal>
+    ensures { IfOk result (λ clocks. map counts clocks ≡ all_counts) }
+{
     let quick = ClockPair::new(1, 1)?;
     Ok([
         Clocks {
@@ -36,7 +41,9 @@ pub fn all_clocks() -> Result<[Clocks; 4], Refusal> {
 }
 
 // One master reads one byte from two queues.
-pub fn queue_bus() -> Result<QueueBus, Refusal> {
+pub fn queue_bus() -> Result<QueueBus, Refusal>
+    ensures { IfOk result IsQueues }
+{
     let events = Address::new(EVENTS)?;
     let read = Transfer::read(events, 1)?;
     let reader = Master::new(ClockPair::new(1, 1)?, list_of(&[read])?);

@@ -8,18 +8,18 @@ mod run;
 mod setup;
 
 // The first two bytes of the input, if it has as many.
-fn two_bytes(rt: &HostRuntime) -> Result<Option<(u8, u8)>, Fault> {
+fn two_bytes(rt: &HostRuntime) -> Result<Option<[u8; 2]>, Fault> {
     let mut bytes = [0; 2];
     match rt.stdin().read_exact(&mut bytes) {
-        Ok(()) => Ok(Some((bytes[0], bytes[1]))),
+        Ok(()) => Ok(Some(bytes)),
         Err(error) if error.kind() == ErrorKind::UnexpectedEof => Ok(None),
-        Err(error) => Err(Fault::Io(error)),
+        Err(error) => Err(error.into()),
     }
 }
 
 fn main(rt: HostRuntime) -> Result<(), Fault> {
     match two_bytes(&rt)? {
-        Some((first, second)) => run::run(&rt, first, second),
+        Some(bytes) => run::run(&rt, bytes[0], bytes[1]),
         None => Ok(()),
     }
 }

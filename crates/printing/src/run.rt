@@ -9,8 +9,8 @@ use fault::Fault;
 use listing::Listing;
 use parts::arm_all;
 
-// Arms the first `masters` masters before each tick, and prints what the tick shows, until the bus is at rest all the
-// same. After a fault the bus stands after the tick that was not printed, its masters armed.
+// Ticks until the bus is at rest, `most_ticks` times at most, and prints what each tick shows. The first `masters`
+// masters are armed before each tick. After a fault the bus stands after the tick that was not printed.
 pub fn print_run<M: Masters, P: Ports>(
     rt: &HostRuntime,
     bus: &mut Bus<M, P>,

@@ -1,0 +1,34 @@
+use Rattle.std.proofs.Common.{◌≡◌, ℕ, List, [], ◌∷◌, None, Ok, Result}
+use Rattle.transfer.specs.Drafts.{TransferModel}
+use Rattle.transfer.specs.Wholes.{one_read}
+use Rattle.device.specs.EventQueues.{event_queue}
+use Rattle.host.specs.ListHosts.{Listed, list_host}
+use Rattle.law.specs.Buses.{BusModel, made}
+use Rattle.master.specs.Masters.{new_master}
+use Rattle.master.specs.Scripts.{transfers}
+use Rattle.master.specs.Serving.{Served}
+use Rattle.port.specs.Ports.{PortModel, new_port}
+use Rattle.examples.specs.Setups.{reader, two_queues, event_read, queues}
+use Rattle.examples.proofs.setup.queue_bus.Goals as goal
+
+same : {X : Type 0} {x y : X} → ◌≡◌ {A = Result X ℕ} (Ok x) (Ok y) → x ≡ y
+same e = cc
+
+read_is : (t : TransferModel) (a : ℕ) → Ok t ≡ one_read a 1 → a ≡ 81 → t ≡ event_read
+read_is t a e at_81 = cc
+
+queues_are : (u : BusModel reader two_queues) (x : Served list_host) (p q : PortModel event_queue) (a : ℕ) (clock : ℕ × ℕ) (m n : Listed) (one other : List ℕ) →
+    u ≡ made reader two_queues (x, tt) (p, (q, tt)) → x ≡ record { master = new_master transfers clock.0 clock.1; meaning = m } →
+    p ≡ new_port event_queue a one → q ≡ new_port event_queue a other →
+    a ≡ 81 → clock ≡ (1, 1) → m ≡ n → one ≡ 0x3C ∷ [] → other ≡ 0x5A ∷ [] → u ≡ queues n
+queues_are u x p q a clock m n one other e reads first second at_81 quick is one_is other_is = cc
+
+pub returns : goal.returns
+returns c =
+    let t = c.in_ok-read.read in
+    let at_81 = same c.in_ok-events.ensures in (
+      t,
+      read_is _ _ c.in_ok-read.ensures at_81,
+      queues_are _ _ _ _ _ _ _ (record { rest = t ∷ []; last = None }) _ _ c.new-3.ensures.made c.new-reader.ensures c.new-first.ensures c.new-second.ensures
+          at_81 (same c.in_ok-new.ensures) (same c.in_ok-list_of.ensures) (same c.in_ok-queue_of.ensures) (same c.in_ok-queue_of-2.ensures),
+    )
