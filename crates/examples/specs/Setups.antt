@@ -3,23 +3,15 @@ use Rattle.std.specs.Prelude.{◌≡◌, ℕ, List, [], ◌∷◌, None}
 use Rattle.transfer.specs.declared.draft.Transfer.{Transfer}
 use Rattle.transfer.specs.Drafts.{TransferModel, transfer_model}
 use Rattle.transfer.specs.Legs.{reads}
-use Rattle.device.specs.declared.event_queue.EventQueue.{EventQueue}
 use Rattle.device.specs.Behaviours.{Behaviour}
-use Rattle.device.specs.EventQueues.{event_queue, queued}
-use Rattle.host.specs.declared.list_host.ListHost.{ListHost}
+use Rattle.device.specs.EventQueues.{event_queue}
 use Rattle.host.specs.Behaviours.{HostBehaviour}
-use Rattle.host.specs.ListHosts.{Listed, listed, list_host}
-use Rattle.exchange.specs.declared.bank.End.{End}
-use Rattle.exchange.specs.declared.bus.Bus.{Bus}
-use Rattle.exchange.specs.Parts.{bus_model}
+use Rattle.host.specs.ListHosts.{Listed, list_host}
 use Rattle.law.specs.Buses.{BusModel, made}
-use Rattle.master.specs.declared.master.Master.{Master}
 use Rattle.master.specs.Masters.{new_master}
 use Rattle.master.specs.Scripts.{transfers}
-use Rattle.master.specs.Serving.{served}
 use Rattle.parts.specs.declared.pair.Clocks.{Clocks}
-use Rattle.port.specs.declared.port.Port.{Port}
-use Rattle.port.specs.Ports.{port_model, new_port}
+use Rattle.port.specs.Ports.{new_port}
 
 -- the low and the high count of each master
 abbrev pub counts : Clocks → (ℕ × ℕ) × (ℕ × ℕ)
@@ -34,11 +26,6 @@ reader = list_host ∷ []
 abbrev pub two_queues : List Behaviour
 two_queues = event_queue ∷ event_queue ∷ []
 
-abbrev pub queue_model : Bus (Master ListHost × End) (Port EventQueue × (Port EventQueue × End)) → BusModel reader two_queues
-queue_model u =
-    bus_model reader (λ m. (served list_host listed m.0, tt))
-    two_queues (λ p. (port_model event_queue queued p.0, (port_model event_queue queued p.1.0, tt))) u
-
 -- a read of one byte
 abbrev pub event_read : TransferModel
 event_read = record { first = record { address = 81; body = reads 1 }; second = None }
@@ -49,5 +36,5 @@ queues m =
     made reader two_queues (record { master = new_master transfers 1 1; meaning = m }, tt)
     (new_port event_queue 81 (0x3C ∷ []), (new_port event_queue 81 (0x5A ∷ []), tt))
 
-abbrev pub IsQueues : Bus (Master ListHost × End) (Port EventQueue × (Port EventQueue × End)) → Type 0
-IsQueues u = (t : Transfer) × (transfer_model t ≡ event_read) × (queue_model u ≡ queues (record { rest = t ∷ []; last = None }))
+abbrev pub IsQueues : BusModel reader two_queues → Type 0
+IsQueues u = (t : Transfer) × (transfer_model t ≡ event_read) × (u ≡ queues (record { rest = t ∷ []; last = None }))

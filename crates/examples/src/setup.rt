@@ -1,5 +1,6 @@
 // The clocks of the examples, and the bus of two queues.
 ghost use Rattle.std.specs.Prelude.{◌≡◌, map, IfOk};
+ghost use Rattle.exchange.specs.Parts.{bus_model};
 ghost use Rattle.examples.specs.Setups.{counts, all_counts, IsQueues};
 
 use device::EventQueue;
@@ -42,7 +43,7 @@ pub fn all_clocks() -> Result<[Clocks; 4], Refusal>
 
 // One master reads one byte from two queues.
 pub fn queue_bus() -> Result<QueueBus, Refusal>
-    ensures { IfOk result IsQueues }
+    ensures { IfOk result (λ u. IsQueues (bus_model u)) }
 {
     let events = Address::new(EVENTS)?;
     let read = Transfer::read(events, 1)?;

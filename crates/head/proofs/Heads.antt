@@ -11,9 +11,6 @@ use Rattle.master.specs.Serving.{Served}
 use Rattle.port.specs.Ports.{PortModel, new_port}
 use Rattle.head.specs.Setups.{serving, idle_registers, slow_queue, quick_queue, head_hosts, head_devices, head}
 
-pub same : {X : Type 0} {x y : X} → ◌≡◌ {A = Result X ℕ} (Ok x) (Ok y) → x ≡ y
-same e = cc
-
 -- what is made at a known address
 pub at : {X : Type 0} (make : ℕ → Result X ℕ) (x y : X) (address known : ℕ) → Ok x ≡ make address → address ≡ known → make known ≡ Ok y → x ≡ y
 at make x y address known e is made_there = cc

@@ -1,8 +1,9 @@
 // The bus of the sensor head: a logger, an alarm unit and a service port, and the three devices that they share.
 ghost use Rattle.std.specs.Prelude.{◌≡◌, IfOk};
+ghost use Rattle.device.specs.EventQueues.{queued};
 ghost use Rattle.exchange.specs.Parts.{bus_model};
 ghost use Rattle.master.specs.Serving.{served};
-ghost use Rattle.head.specs.Setups.{log_write, log_read, event_read, service_write, probe_write, ListsAt, PollsAt, IsHead};
+ghost use Rattle.head.specs.Setups.{log_write, log_read, event_read, service_write, probe_write, slow_queue, ListsAt, PollsAt, IsHead};
 
 use device::{Busy, EventQueue, RegisterFile, Slow};
 use exchange::{Bus, End};
@@ -60,13 +61,20 @@ fn service_port() -> Result<Master<ListHost>, Refusal>
     Ok(Master::new(clock, list_of(&[write, probe])?))
 }
 
+// It holds the clock for 5 ticks.
+fn slow_events() -> Result<Slow<EventQueue>, Refusal>
+    ensures { IfOk result (λ s. (s.number ≡ 5) × (queued s.device ≡ slow_queue)) }
+{
+    Ok(Slow::new(5, queue_of(&[0x91, 0x85])?))
+}
+
 pub fn head_bus() -> Result<HeadBus, Refusal>
     ensures { IfOk result (λ u. IsHead (bus_model u)) }
 {
     let masters = (logger()?, (alarm_unit()?, (service_port()?, End)));
     let registers = Address::new(REGISTERS)?;
     let events = Address::new(EVENTS)?;
-    let slow = Slow::new(5, queue_of(&[0x91, 0x85])?);
+    let slow = slow_events()?;
     let quick = queue_of(&[0x31])?;
     let ports = (
         Port::new(registers, Busy::new(1, RegisterFile::new())),

@@ -1,4 +1,4 @@
-use Rattle.std.proofs.Common.{◌≡◌, ℕ, List, [], ◌∷◌, None, Ok, Result}
+use Rattle.std.proofs.Common.{◌≡◌, ℕ, List, [], ◌∷◌, None, Ok}
 use Rattle.transfer.specs.Drafts.{TransferModel}
 use Rattle.transfer.specs.Wholes.{one_read}
 use Rattle.device.specs.EventQueues.{event_queue}
@@ -9,10 +9,8 @@ use Rattle.master.specs.Scripts.{transfers}
 use Rattle.master.specs.Serving.{Served}
 use Rattle.port.specs.Ports.{PortModel, new_port}
 use Rattle.examples.specs.Setups.{reader, two_queues, event_read, queues}
+use Rattle.parts.proofs.Made.{ok_same}
 use Rattle.examples.proofs.setup.queue_bus.Goals as goal
-
-same : {X : Type 0} {x y : X} → ◌≡◌ {A = Result X ℕ} (Ok x) (Ok y) → x ≡ y
-same e = cc
 
 read_is : (t : TransferModel) (a : ℕ) → Ok t ≡ one_read a 1 → a ≡ 81 → t ≡ event_read
 read_is t a e at_81 = cc
@@ -26,9 +24,9 @@ queues_are u x p q a clock m n one other e reads first second at_81 quick is one
 pub returns : goal.returns
 returns c =
     let t = c.in_ok-read.read in
-    let at_81 = same c.in_ok-events.ensures in (
+    let at_81 = ok_same c.in_ok-events.ensures in (
       t,
       read_is _ _ c.in_ok-read.ensures at_81,
       queues_are _ _ _ _ _ _ _ (record { rest = t ∷ []; last = None }) _ _ c.new-3.ensures.made c.new-reader.ensures c.new-first.ensures c.new-second.ensures
-          at_81 (same c.in_ok-new.ensures) (same c.in_ok-list_of.ensures) (same c.in_ok-queue_of.ensures) (same c.in_ok-queue_of-2.ensures),
+          at_81 (ok_same c.in_ok-new.ensures) (ok_same c.in_ok-list_of.ensures) (ok_same c.in_ok-queue_of.ensures) (ok_same c.in_ok-queue_of-2.ensures),
     )

@@ -1,6 +1,5 @@
-use Rattle.std.proofs.Common.{ap, ◌∙◌}
-use Rattle.device.specs.EventQueues.{queued}
-use Rattle.head.proofs.Heads.{same, idle_is, head_is}
+use Rattle.head.proofs.Heads.{idle_is, head_is}
+use Rattle.parts.proofs.Made.{ok_same}
 use Rattle.head.proofs.setup.head_bus.Goals as goal
 
 pub returns : goal.returns
@@ -15,6 +14,6 @@ returns c =
       polls,
       more,
       head_is _ _ _ _ _ _ _ _ _ _ _ _ a b d c.new-8.ensures.made first second third c.new-5.ensures c.new-6.ensures c.new-7.ensures
-          (same c.in_ok-registers.ensures) (same c.in_ok-events.ensures) (idle_is _ _ c.new-4.ensures c.new-3.ensures)
-          (ap (λ s. queued s.device) c.new-slow.ensures ∙ same c.in_ok-queue_of.ensures) (same c.in_ok-quick.ensures),
+          (ok_same c.in_ok-registers.ensures) (ok_same c.in_ok-events.ensures) (idle_is _ _ c.new-4.ensures c.new-3.ensures)
+          c.in_ok-slow.ensures.1 (ok_same c.in_ok-quick.ensures),
     )

@@ -1,4 +1,4 @@
-use Rattle.std.proofs.Common.{◌≡◌, ℕ, [], ◌∷◌, None, Ok, Result, refl}
+use Rattle.std.proofs.Common.{◌≡◌, ℕ, [], ◌∷◌, None, Ok, refl}
 use Rattle.transfer.specs.Drafts.{TransferModel}
 use Rattle.transfer.specs.Wholes.{one_write}
 use Rattle.device.specs.RegisterFiles.{register_file, new_registers}
@@ -6,10 +6,8 @@ use Rattle.host.specs.ListHosts.{Listed, list_host}
 use Rattle.law.specs.Buses.{BusModel, made}
 use Rattle.port.specs.Ports.{new_port}
 use Rattle.pairwrite.specs.Setups.{register_write, serving, pair}
+use Rattle.parts.proofs.Made.{ok_same}
 use Rattle.pairwrite.proofs.setup.bus_of.Goals as goal
-
-same : {X : Type 0} {x y : X} → ◌≡◌ {A = Result X ℕ} (Ok x) (Ok y) → x ≡ y
-same e = cc
 
 write_is : (t : TransferModel) (a byte : ℕ) → Ok t ≡ one_write a (3 ∷ byte ∷ []) → a ≡ 80 → t ≡ register_write byte
 write_is t a byte e at_80 = cc
@@ -23,10 +21,10 @@ pub returns : goal.returns
 returns c =
     let t = c.in_ok-first.first in
     let u = c.in_ok-second.second in
-    let at_80 = same c.in_ok-address.ensures in (
+    let at_80 = ok_same c.in_ok-address.ensures in (
       record { rest = t ∷ []; last = None },
       record { rest = u ∷ []; last = None },
       (t, write_is _ _ _ c.in_ok-first.ensures at_80, refl),
       (u, write_is _ _ _ c.in_ok-second.ensures at_80, refl),
-      pair_is _ _ _ _ _ _ _ _ c.pair_bus.ensures at_80 (same c.in_ok-new.ensures) (same c.in_ok-new-2.ensures) (same c.in_ok-list_of.ensures) (same c.in_ok-list_of-2.ensures),
+      pair_is _ _ _ _ _ _ _ _ c.pair_bus.ensures at_80 (ok_same c.in_ok-new.ensures) (ok_same c.in_ok-new-2.ensures) (ok_same c.in_ok-list_of.ensures) (ok_same c.in_ok-list_of-2.ensures),
     )
