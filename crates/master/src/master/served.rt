@@ -32,11 +32,7 @@ impl<H: Host> Master<H> {
     pub fn pulls(&self) -> Pulls
         ensures { result ≡ served_pulls _ (served H.Host self.now) }
     {
-        // by line: what a tick wrote to one line is then read as it was written
-        Pulls {
-            scl: self.state.pulls.scl,
-            sda: self.state.pulls.sda,
-        }
+        self.state.pulls
     }
 
     pub fn is_armed(&self) -> bool
