@@ -58,7 +58,7 @@ module _ (W : Script) (D : Side) (left : W.Cursor → ℕ) where
   leader_has t (Some r ∷ l) s below zero p e h = go (leader W D left l s) refl
     where
       r_has : task_string W D left r s ≡ t
-      r_has = let z : r ≡ p = cc in ap (λ x. task_string W D left x s) z ∙ h
+      r_has = cc
 
       go : (o : Option W.Task) → leader W D left l s ≡ o → (q : W.Task) × (Some (pick W D left r o s) ≡ Some q) × (task_string W D left q s ≡ t)
       go None d = (r, refl, r_has)
