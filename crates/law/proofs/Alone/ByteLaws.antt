@@ -1,7 +1,7 @@
 -- The laws of bytes: who took an acknowledged byte, and who gave a byte that was read.
 use Rattle.std.proofs.Common.{◌≡◌, ℕ, zero, suc, ◌+◌, ◌-◌, ◌*◌, ◌<◌, Bool, true, false, cond, ◌&&◌, ◌↔◌, List, [], ◌∷◌, length, get_or, take, sym, refl, ◌∙◌, inl, inr, mod-eq_of_lt, arith}
 use lib.Bits.{bit_and, and_mask, and_comm}
-use Rattle.std.proofs.lemmas.Bool.{lt-ltb, or_cases, or_parts, false≢true}
+use Rattle.std.proofs.lemmas.Bool.{lt-ltb, or_cases, or_parts}
 use Rattle.transfer.specs.declared.leg.Direction.{Direction}
 use Rattle.transfer.specs.declared.leg.Direction.TheVariants.{Write, Read}
 use Rattle.transfer.specs.declared.outcome.OutcomeKind.TheVariants.{Done, NoAnswer, Refused}
