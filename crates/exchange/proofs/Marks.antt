@@ -2,12 +2,9 @@
 use Rattle.std.proofs.Common.{◌≡◌, suc, ◌-◌, ◌<◌, List, [], ◌∷◌, length, take, drop, set, refl, ◌∙◌, append-nil, arith}
 use borrow.Rule.Slice.PartMut.{put_mid}
 use Rattle.std.proofs.lemmas.List.{take_all}
+use Rattle.std.proofs.Math.Seq.{drop-length}
 use Rattle.master.specs.declared.mark.Mark.{Mark}
 use Rattle.law.specs.Buses.{over}
-
-drop_all : (xs : List Mark) → drop (length xs) xs ≡ []
-drop_all [] = refl
-drop_all (x ∷ xs) = drop_all xs
 
 pub first_over : (ms ys xs : List Mark) (m k : Mark) → 0 < length ms → m ≡ k →
     ys ≡ over xs (take (length (set ms 0 m) - 1) (drop 1 (set ms 0 m))) →
@@ -17,7 +14,7 @@ first_over (x ∷ rest) ys xs m k h e q =
     let n : suc (length rest) - 1 ≡ length rest = omega arith in
     let all = take_all (length rest) rest (omega arith) in
     let tail : ys ≡ over xs rest = q ∙ rw (n, all) in
-    rw (n, drop_all rest, append-nil, tail, e)
+    rw (n, drop-length rest, append-nil, tail, e)
 
 nothing_over : (xs : List Mark) → over xs [] ≡ []
 nothing_over [] = refl
