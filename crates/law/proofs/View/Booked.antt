@@ -139,8 +139,7 @@ leave_tasks (h ∷ hs) es (t ∷ ts) = ap₂ ◌∷◌ (leave_task h es.0 t) (le
 leave_kept : (hs : List HostBehaviour) (es : Bank Entry hs) (ts : List (Option OutcomeModel)) → Kept hs es → Kept hs (leave_all hs es ts)
 leave_kept [] es ts k = tt
 leave_kept (h ∷ hs) es [] k = (k.0, leave_kept hs es.1 [] k.1)
-leave_kept (h ∷ hs) es (None ∷ ts) k = (k.0, leave_kept hs es.1 ts k.1)
-leave_kept (h ∷ hs) es (Some o ∷ ts) k = (tt, leave_kept hs es.1 ts k.1)
+leave_kept (h ∷ hs) es (o ∷ ts) k = grind (arith, leave_kept hs es.1 ts)
 
 legal_if : (h : HostBehaviour) (v : Bool) (w : Option Transfer) → LegalIf (wanted_if h v w)
 legal_if h true None = tt

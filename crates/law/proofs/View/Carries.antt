@@ -64,13 +64,9 @@ module _ (ds : List Behaviour) (d : Bank Placed ds) where
   abbrev pub lead : List (Option TransferModel) → Option TransferModel
   lead l = leader transfers (ports_side ds) slots_left l side
 
-  pick_legal : (t : TransferModel) (o : Option TransferModel) → Legal t → LegalIf o → Legal (pick transfers (ports_side ds) slots_left t o side)
-  pick_legal t o h k = grind arith
-
   pub lead_legal : (l : List (Option TransferModel)) → AllLegal l → LegalIf (lead l)
   lead_legal [] k = tt
-  lead_legal (None ∷ l) k = lead_legal l k.1
-  lead_legal (Some t ∷ l) k = pick_legal t (lead l) k.0 (lead_legal l k.1)
+  lead_legal (o ∷ l) k = grind (arith, lead_legal l)
 
   carry_cond : (b : Bool) (t u : TransferModel) → carry (cond b t u) ≡ cond b (carry t) (carry u)
   carry_cond b t u = grind arith
