@@ -3,9 +3,9 @@ use Rattle.std.proofs.Common.{◌≡◌, ℕ, zero, suc, Bool, true, false, not,
 use Rattle.master.specs.declared.symbol.Symbol.{Symbol}
 use Rattle.master.specs.Masters.{ArmingModel, MasterModel, VerdictModel, quiet, lost, arms, arm_master}
 use Rattle.master.specs.Scripts.{Script}
-use Rattle.law.proofs.Law.Phases.{rank, Cell, out, live, off, looks, notes, cursor, cursors, some, alive, Every, Times, Timed, who, stay, advance, finished, claim, claim_all}
+use Rattle.law.proofs.Law.Phases.{rank, Cell, out, live, off, looks, notes, cursor, cursors, some, alive, Every, Times, Timed, who, stay, advance, finished, claim_all}
 use Rattle.law.proofs.Law.Race.{at}
-use Rattle.law.proofs.Law.Uses.{Tasks, count, any, armed_if, arm_book, nobody, task_of, armeds, pulling, is_lost, telling, tellings, arm_masters, begin_one, begins, falses, marks_too}
+use Rattle.law.proofs.Law.Uses.{Tasks, count, any, armed_if, arm_book, nobody, task_of, armeds, pulling, is_lost, telling, tellings, arm_masters, begins, falses, marks_too}
 
 pub armed_same : {A : Type 0} → (o w : Option A) → is_some o ≡ true → armed_if o w ≡ o
 armed_same o w h = grind arith
@@ -61,6 +61,7 @@ module _ (W : Script) where
   marked f (o ∷ l) [] = []
   marked f (o ∷ l) (c ∷ cs) = (is_some o && gone f c) ∷ marked f l cs
 
+  -- a slot's survivors
   pub armeds_stay : (n : ℕ) (cs : List (Cell W)) → cell_armeds (stay W n cs) ≡ cell_armeds cs
   armeds_stay n [] = refl
   armeds_stay n (c ∷ cs) = grind (arith, armeds_stay n cs)
@@ -89,59 +90,38 @@ module _ (W : Script) where
   within_advance b (o ∷ l) [] h = h
   within_advance b (o ∷ l) (c ∷ cs) h = grind (arith, within_advance b l cs)
 
+  -- the stop
   pub holding_finished : (cs : List (Cell W)) → Holding (finished W cs)
   holding_finished [] = tt
   holding_finished (c ∷ cs) = grind (arith, holding_finished cs)
 
-  -- the claim
-  claim_who : (m : MasterModel W) (a : ArmingModel W) → who W (claim W m a) ≡ m
-  claim_who m a = grind arith
-
   pub armeds_claim : (cs : List (Cell W)) → cell_armeds (claim_all W cs) ≡ cell_armeds cs
   armeds_claim [] = refl
-  armeds_claim (c ∷ cs) = ap₂ ◌∷◌ (ap (λ m. task_of W m.arming) (claim_who (who W c) (who W c).arming)) (armeds_claim cs)
-
-  claim_cursor : (m : MasterModel W) (a : ArmingModel W) → cursor W (claim W m a) ≡ begin_one W (task_of W a)
-  claim_cursor m a = grind arith
+  armeds_claim (c ∷ cs) = grind (arith, armeds_claim cs)
 
   pub cursors_claim : (cs : List (Cell W)) → cursors W (claim_all W cs) ≡ begins W (cell_armeds cs)
   cursors_claim [] = refl
-  cursors_claim (c ∷ cs) = ap₂ ◌∷◌ (claim_cursor (who W c) (who W c).arming) (cursors_claim cs)
-
-  claim_times : (m : MasterModel W) (a : ArmingModel W) → Times W m → Times W (who W (claim W m a))
-  claim_times m a h = grind arith
+  cursors_claim (c ∷ cs) = grind (arith, cursors_claim cs)
 
   pub timed_claim : (cs : List (Cell W)) → Timed W cs → Timed W (claim_all W cs)
   timed_claim [] t = tt
-  timed_claim (c ∷ cs) t = (claim_times (who W c) (who W c).arming t.0, timed_claim cs t.1)
-
-  claim_holding : (m : MasterModel W) (a : ArmingModel W) (cs : List (Cell W)) → m.arming ≡ a → Holding cs → Holding (claim W m a ∷ cs)
-  claim_holding m a cs h k = grind arith
+  timed_claim (c ∷ cs) t = grind (arith, timed_claim cs)
 
   pub holding_claim : (cs : List (Cell W)) → Holding (claim_all W cs)
   holding_claim [] = tt
-  holding_claim (c ∷ cs) = claim_holding (who W c) (who W c).arming (claim_all W cs) refl (holding_claim cs)
-
-  claim_within : (m : MasterModel W) (a : ArmingModel W) (l : Tasks W) (cs : List (Cell W)) → Within l cs → Within (task_of W a ∷ l) (claim W m a ∷ cs)
-  claim_within m a l cs h = grind arith
+  holding_claim (c ∷ cs) = grind (arith, holding_claim cs)
 
   pub within_claim : (cs : List (Cell W)) → Within (cell_armeds cs) (claim_all W cs)
   within_claim [] = tt
-  within_claim (c ∷ cs) = claim_within (who W c) (who W c).arming (cell_armeds cs) (claim_all W cs) (within_claim cs)
-
-  claim_alive : (m : MasterModel W) (a : ArmingModel W) (cs : List (Cell W)) → alive W (claim W m a ∷ cs) ≡ (is_some (task_of W a) || alive W cs)
-  claim_alive m a cs = grind arith
+  within_claim (c ∷ cs) = grind (arith, within_claim cs)
 
   pub alive_claim : (cs : List (Cell W)) → alive W (claim_all W cs) ≡ any (cell_armeds cs)
   alive_claim [] = refl
-  alive_claim (c ∷ cs) = claim_alive (who W c) (who W c).arming (claim_all W cs) ∙ ap (λ v. is_some (task_of W (who W c).arming) || v) (alive_claim cs)
-
-  claim_marked : (m : MasterModel W) (a : ArmingModel W) → false ≡ (is_some (task_of W a) && gone never (claim W m a))
-  claim_marked m a = grind arith
+  alive_claim (c ∷ cs) = grind (arith, alive_claim cs)
 
   pub marked_claim : (cs : List (Cell W)) → falses (cell_armeds cs) ≡ marked never (cell_armeds cs) (claim_all W cs)
   marked_claim [] = refl
-  marked_claim (c ∷ cs) = ap₂ ◌∷◌ (claim_marked (who W c) (who W c).arming) (marked_claim cs)
+  marked_claim (c ∷ cs) = grind (arith, marked_claim cs)
 
   -- who was marked, after verdicts and after a slot; g: whom the verdicts mark
   pub marked_more : (f g : Symbol → Bool) (k : Symbol → W.Cursor → VerdictModel W) (each : (x : Symbol) (p : W.Cursor) → is_lost W (k x p) ≡ g x)
@@ -285,7 +265,7 @@ module _ (W : Script) where
   arm_marked f (o ∷ l) (c ∷ cs) [] i = refl
   arm_marked f (o ∷ l) (out m ∷ cs) (w ∷ ws) zero = refl
   arm_marked f (o ∷ l) (live m p ∷ cs) (w ∷ ws) zero = refl
-  arm_marked f (o ∷ l) (c ∷ cs) (w ∷ ws) (suc i) = ap (λ v. (is_some o && gone W f c) ∷ v) (arm_marked f l cs ws i)
+  arm_marked f (o ∷ l) (c ∷ cs) (w ∷ ws) (suc i) = grind (arith, arm_marked f l cs ws i)
 
   pub arm_advance : (b : Bool) (cs : List (Cell W)) (ws : Tasks W) (i : ℕ) → cursors W (advance W b (arm_cells cs ws i)) ≡ cursors W (advance W b cs)
   arm_advance b [] ws i = refl

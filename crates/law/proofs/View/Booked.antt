@@ -73,7 +73,7 @@ arm_meanings (h ∷ hs) es (suc n) = ap (λ r. (es.0.meaning, r)) (arm_meanings 
 pub arm_contenders : (hs : List HostBehaviour) (es : Bank Entry hs) (n : ℕ) → contenders hs (entry_arm_nth hs es n).1 ≡ contenders hs es
 arm_contenders [] es n = refl
 arm_contenders (h ∷ hs) es zero = ap (λ o. o ∷ contenders hs es.1) (arms_contends h es.0 es.0.standing (h.want es.0.meaning))
-arm_contenders (h ∷ hs) es (suc n) = ap (λ l. contends_with h es.0 ∷ l) (arm_contenders hs es.1 n)
+arm_contenders (h ∷ hs) es (suc n) = grind (arith, arm_contenders hs es.1 n)
 
 answers_one : (h : HostBehaviour) (x : Entry h) (s : Standing) (w : Option Transfer) → WantsIf s w → (entry_arms h x s w).0 ≡ answer_if (wanted_if h (is_armed s) w) (option_map transfer_model w)
 answers_one h x s w k = grind arith
@@ -101,15 +101,15 @@ any_armed (h ∷ hs) es k = ap₂ ◌||◌ (some_if h es.0.standing (h.want es.0
 
 enter_tasks : (hs : List HostBehaviour) (es : Bank Entry hs) → tasks hs (each enters hs es) ≡ tasks hs es
 enter_tasks [] es = refl
-enter_tasks (h ∷ hs) es = ap (λ l. task_of h es.0 ∷ l) (enter_tasks hs es.1)
+enter_tasks (h ∷ hs) es = grind (arith, enter_tasks hs)
 
 enter_contenders : (hs : List HostBehaviour) (es : Bank Entry hs) → contenders hs (each enters hs es) ≡ tasks hs es
 enter_contenders [] es = refl
-enter_contenders (h ∷ hs) es = ap (λ l. task_of h es.0 ∷ l) (enter_contenders hs es.1)
+enter_contenders (h ∷ hs) es = grind (arith, enter_contenders hs)
 
 enter_meanings : (hs : List HostBehaviour) (es : Bank Entry hs) → meanings hs (each enters hs es) ≡ meanings hs es
 enter_meanings [] es = refl
-enter_meanings (h ∷ hs) es = ap (λ r. (es.0.meaning, r)) (enter_meanings hs es.1)
+enter_meanings (h ∷ hs) es = grind (arith, enter_meanings hs)
 
 enter_kept : (hs : List HostBehaviour) (es : Bank Entry hs) → Kept hs es → Kept hs (each enters hs es)
 enter_kept [] es k = tt
@@ -121,7 +121,7 @@ leave_meaning h x t = grind arith
 
 leave_meanings : (hs : List HostBehaviour) (es : Bank Entry hs) (ts : List (Option OutcomeModel)) → meanings hs (leave_all hs es ts) ≡ hears_all hs (meanings hs es) ts
 leave_meanings [] es ts = refl
-leave_meanings (h ∷ hs) es [] = ap (λ r. (es.0.meaning, r)) (leave_meanings hs es.1 [])
+leave_meanings (h ∷ hs) es [] = grind (arith, leave_meanings hs)
 leave_meanings (h ∷ hs) es (t ∷ ts) = λ i. (leave_meaning h es.0 t i, leave_meanings hs es.1 ts i)
 
 leave_task : (h : HostBehaviour) (x : Entry h) (t : Option OutcomeModel) → task_of h (leaves h x t) ≡ disarm_one (task_of h x) t
@@ -129,7 +129,7 @@ leave_task h x t = grind arith
 
 leave_no_tasks : (hs : List HostBehaviour) (es : Bank Entry hs) → tasks hs (leave_all hs es []) ≡ tasks hs es
 leave_no_tasks [] es = refl
-leave_no_tasks (h ∷ hs) es = ap (λ l. task_of h es.0 ∷ l) (leave_no_tasks hs es.1)
+leave_no_tasks (h ∷ hs) es = grind (arith, leave_no_tasks hs)
 
 leave_tasks : (hs : List HostBehaviour) (es : Bank Entry hs) (ts : List (Option OutcomeModel)) → tasks hs (leave_all hs es ts) ≡ disarm (tasks hs es) ts
 leave_tasks [] es ts = refl
@@ -153,7 +153,7 @@ contenders_legal (h ∷ hs) es = (legal_if h es.0.contends (h.want es.0.meaning)
 contests_are : (ds : List Behaviour) (d : Bank Placed ds) (hs : List HostBehaviour) (es : Bank Entry hs) →
     listed (λ h x. option_map (λ t. carried ds t d) (contends_with h x)) hs es ≡ carry_all ds d (contenders hs es)
 contests_are ds d [] es = refl
-contests_are ds d (h ∷ hs) es = ap (λ l. option_map (λ t. carried ds t d) (contends_with h es.0) ∷ l) (contests_are ds d hs es.1)
+contests_are ds d (h ∷ hs) es = grind (arith, contests_are ds d hs)
 
 nobody_is : (hs : List HostBehaviour) (es : Bank Entry hs) → listed {X = Option OutcomeModel} (λ h x. None) hs es ≡ nobody (tasks hs es)
 nobody_is [] es = refl
