@@ -95,6 +95,7 @@ module _ (W : Script) where
   holding_finished [] = tt
   holding_finished (c ∷ cs) = grind (arith, holding_finished cs)
 
+  -- the claim
   pub armeds_claim : (cs : List (Cell W)) → cell_armeds (claim_all W cs) ≡ cell_armeds cs
   armeds_claim [] = refl
   armeds_claim (c ∷ cs) = grind (arith, armeds_claim cs)

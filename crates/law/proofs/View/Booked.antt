@@ -18,7 +18,7 @@ use Rattle.law.proofs.Alone.Sealed.{legal_transfer}
 use Rattle.law.proofs.Alone.SlotsLeft.{slots_left}
 use Rattle.law.proofs.Law.Uses.{any, answer, answer_if, armed_if, arm_book, nobody, disarm, disarm_one, Book as LawBook, book, feed_arm, feed, stop_tells, book_tells as law_tells}
 use Rattle.law.proofs.View.Carries.{LegalIf, AllLegal, carry_all, lead, told_are, devices_are}
-use Rattle.law.proofs.View.Hosting.{Meanings, wants_of, hears_one, hears_all, all_hosts}
+use Rattle.law.proofs.View.Hosting.{Meanings, wants_of, hears_all, all_hosts}
 
 abbrev pub meaning_of : (h : HostBehaviour) → Entry h → h.Meaning
 meaning_of h x = x.meaning
@@ -115,14 +115,10 @@ enter_kept : (hs : List HostBehaviour) (es : Bank Entry hs) → Kept hs es → K
 enter_kept [] es k = tt
 enter_kept (h ∷ hs) es k = (k.0, enter_kept hs es.1 k.1)
 
--- a turn closes
-leave_meaning : (h : HostBehaviour) (x : Entry h) (t : Option OutcomeModel) → (leaves h x t).meaning ≡ hears_one h x.meaning t
-leave_meaning h x t = grind arith
-
 leave_meanings : (hs : List HostBehaviour) (es : Bank Entry hs) (ts : List (Option OutcomeModel)) → meanings hs (leave_all hs es ts) ≡ hears_all hs (meanings hs es) ts
 leave_meanings [] es ts = refl
 leave_meanings (h ∷ hs) es [] = grind (arith, leave_meanings hs)
-leave_meanings (h ∷ hs) es (t ∷ ts) = λ i. (leave_meaning h es.0 t i, leave_meanings hs es.1 ts i)
+leave_meanings (h ∷ hs) es (t ∷ ts) = grind (arith, leave_meanings hs es.1 ts)
 
 leave_task : (h : HostBehaviour) (x : Entry h) (t : Option OutcomeModel) → task_of h (leaves h x t) ≡ disarm_one (task_of h x) t
 leave_task h x t = grind arith

@@ -43,6 +43,7 @@ arm_answer_is (h ∷ hs) ms (suc n) = arm_answer_is hs ms.1 n
 accepted_is : (r : Result (Unit {0}) ℕ) → cond (is_ok r) 1 0 ≡ accepted r
 accepted_is r = grind arith
 
+-- ticks
 step_hosts : (hs : List HostBehaviour) (ms : Bank Served hs) (s : Signal) → hosts_of hs (each (λ h. served_step h s) hs ms) ≡ hears_all hs (hosts_of hs ms) (tellings transfers (verdicts transfers (masters_of hs ms) s))
 step_hosts [] ms s = refl
 step_hosts (h ∷ hs) ms s = grind (arith, step_hosts hs)

@@ -79,6 +79,7 @@ module _ (hs : List HostBehaviour) (ds : List Behaviour) where
   pub watched_as : (w : Watch) (b : Book hs ds) (e : Event) → Sound hs ds b → noted_as (watched hs ds w b e) ≡ turned transfers (noted_as w) (tasks hs b.entries) (turn_if b.turn (contenders hs b.entries)) e
   watched_as w b e k = watched_parts w b b.turn e k.kept
 
+-- marks by verdicts
 pub marked_as : (hs : List HostBehaviour) (ms : Bank Served hs) (s : Signal) (vs : List Bool) →
     marked_too vs (listed (λ h. served_mark h s) hs ms) ≡ marks_too transfers vs (verdicts transfers (masters_of hs ms) s)
 marked_as [] ms s [] = refl
