@@ -1,5 +1,5 @@
 -- The turn book as the book of the law, and that both go the same way at every call and event.
-use Rattle.std.proofs.Common.{◌≡◌, ℕ, zero, suc, Bool, true, false, cond, ◌||◌, List, [], ◌∷◌, is_some, Some, None, Option, sym, refl, ap, ◌∙◌, ap₂, arith}
+use Rattle.std.proofs.Common.{◌≡◌, ℕ, zero, suc, Bool, true, false, cond, List, [], ◌∷◌, is_some, Some, None, Option, sym, refl, ap, ◌∙◌, ap₂, arith}
 use Rattle.std.specs.Option.{option_map}
 use Rattle.transfer.specs.declared.draft.Transfer.{Transfer}
 use Rattle.transfer.specs.Drafts.{TransferModel, transfer_model}
@@ -95,9 +95,7 @@ arm_kept (h ∷ hs) es (suc n) k = (k.0, arm_kept hs es.1 n k.1)
 -- a turn opens
 pub any_armed : (hs : List HostBehaviour) (es : Bank Entry hs) → Kept hs es → any (tasks hs es) ≡ any_true (listed standing_of hs es)
 any_armed [] es k = refl
-any_armed (h ∷ hs) es k = ap₂ ◌||◌ (some_if h es.0.standing (h.want es.0.meaning) k.0) (any_armed hs es.1 k.1) where
-  some_if : (g : HostBehaviour) (s : Standing) (w : Option Transfer) → WantsIf s w → is_some (wanted_if g (is_armed s) w) ≡ is_armed s
-  some_if g s w h = grind arith
+any_armed (h ∷ hs) es k = grind (arith, any_armed hs es.1 k.1)
 
 enter_tasks : (hs : List HostBehaviour) (es : Bank Entry hs) → tasks hs (each enters hs es) ≡ tasks hs es
 enter_tasks [] es = refl
