@@ -8,10 +8,10 @@ use Rattle.wire.specs.declared.wire.Signal.{Signal}
 use Rattle.law.specs.Banks.{Bank, each, listed, any_true}
 use Rattle.law.specs.Books.{Entry, standing_of}
 use Rattle.law.specs.Buses.{Holds, tick_at, told_at, is_at_rest}
-use Rattle.master.specs.Serving.{Served, served_armed, served_mark, served_pulls, mark_of}
+use Rattle.master.specs.Serving.{Served, served_armed, served_mark, served_pulls}
 use Rattle.law.specs.Carrying.{Placed}
 use Rattle.law.specs.Laws.{how_many_true, Use, ticks_once, run_on, ticks_of_run, placed_at}
-use Rattle.master.specs.Masters.{VerdictModel, quiet, lost, master_step}
+use Rattle.master.specs.Masters.{quiet, lost}
 use Rattle.port.specs.Ports.{PortModel}
 use Rattle.law.specs.Runs.{how_many, Running, goes_on}
 use Rattle.master.specs.Scripts.{transfers}
@@ -41,20 +41,14 @@ pub entries_armed : (hs : List HostBehaviour) (es : Bank Entry hs) → Kept hs e
 entries_armed [] es k = refl
 entries_armed (h ∷ hs) es k = grind (arith, entries_armed hs es.1 k.1)
 
-no_pull : (a b : Bool) → (a || b) ≡ false → (a ≡ false) × (b ≡ false)
-no_pull a b h = grind arith
-
 pub pulls_none : (hs : List HostBehaviour) (ms : Bank Served hs) (i : ℕ) → pulling transfers (masters_of hs ms) i ≡ false → get_or (listed served_pulls hs ms) i no_pulls ≡ no_pulls
 pulls_none [] ms i e = refl
-pulls_none (h ∷ hs) ms zero e = let p = no_pull ms.0.master.pulls.scl ms.0.master.pulls.sda e in λ j. record { scl = p.0 j; sda = p.1 j }
+pulls_none (h ∷ hs) ms zero e = grind arith
 pulls_none (h ∷ hs) ms (suc i) e = pulls_none hs ms.1 i e
-
-lost_mark : (k : VerdictModel transfers) → mark_of k ≡ Lost → k ≡ lost
-lost_mark k h = grind arith
 
 pub lost_at : (hs : List HostBehaviour) (ms : Bank Served hs) (s : Signal) (i : ℕ) → get_or (listed (λ h. served_mark h s) hs ms) i Quiet ≡ Lost → get_or (verdicts transfers (masters_of hs ms) s) i quiet ≡ lost
 lost_at [] ms s i e = cc
-lost_at (h ∷ hs) ms s zero e = lost_mark (master_step transfers ms.0.master s).1 e
+lost_at (h ∷ hs) ms s zero e = grind arith
 lost_at (h ∷ hs) ms s (suc i) e = lost_at hs ms.1 s i e
 
 module _ (hs : List HostBehaviour) (ds : List Behaviour) where
