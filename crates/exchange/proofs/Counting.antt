@@ -1,5 +1,5 @@
 -- A run counted tick by tick.
-use Rattle.std.proofs.Common.{◌≡◌, ℕ, zero, suc, ◌+◌, ◌-◌, ◌<◌, ◌≤◌, true, false, cond, ltb, ◌⊎◌, List, [], ◌∷◌, length, replicate, Ok, Err, sym, refl, ap, ◌∙◌, subst, inl, inr, add-one, arith, le-ltb, lt-ltb, is_some, Option}
+use Rattle.std.proofs.Common.{◌≡◌, ℕ, zero, suc, ◌+◌, ◌-◌, ◌<◌, ◌≤◌, true, false, cond, ltb, ◌⊎◌, List, [], ◌∷◌, length, replicate, Ok, Err, sym, refl, ap, ◌∙◌, subst, add-one, arith, le-ltb, lt-ltb, is_some, Option}
 use Rattle.std.proofs.lemmas.List.Sums.{sum_by-cons}
 use Rattle.std.proofs.lemmas.List.Folds.{sum_by-replicate}
 use Rattle.transfer.specs.Outcomes.{OutcomeModel}
@@ -48,11 +48,11 @@ module _ (hs : List HostBehaviour) (ds : List Behaviour) where
 
   then_before : (a : ℕ → Holds ds) (t : ℕ) (h : Holds ds) (k : ℕ) → k < t → then a t h k ≡ a k
   unfolding then
-  then_before a t h k lt = rw (lt-ltb k t lt)
+  then_before a t h k e = grind arith
 
   then_at : (a : ℕ → Holds ds) (t : ℕ) (h : Holds ds) → then a t h t ≡ h
   unfolding then
-  then_at a t h = rw (le-ltb t t (omega arith))
+  then_at a t h = grind arith
 
   ticked_on : (u : BusModel hs ds) (r : Running hs ds) (h : Holds ds) → is_at_rest hs ds r.bus ≡ false →
       Reached u r → Reached u (ticked hs ds r h)
@@ -78,12 +78,10 @@ module _ (hs : List HostBehaviour) (ds : List Behaviour) where
       subst (λ (x : Running hs ds). Reached u x) (sym e) (ticked_on u r h (sym up) so)
 
   rests : (r : Running hs ds) (b : ℕ → Holds ds) (m : ℕ) → is_at_rest hs ds r.bus ≡ true → goes_on hs ds m b r ≡ r
-  rests r b zero e = refl
-  rests r b (suc m) e = ap (λ v. cond v r (goes_on hs ds m b (ticked hs ds r (b r.ticks)))) e
+  rests r b m h = grind arith
 
   stops : (r : Running hs ds) (b : ℕ → Holds ds) (n : ℕ) → (r.ticks ≡ n) ⊎ (true ≡ is_at_rest hs ds r.bus) → goes_on hs ds (n - r.ticks) b r ≡ r
-  stops r b n (inl e) = let none : n - r.ticks ≡ 0 = omega arith in ap (λ m. goes_on hs ds m b r) none
-  stops r b n (inr e) = rests r b (n - r.ticks) (sym e)
+  stops r b n h = grind arith
 
   -- a run is over at rest, or once all its ticks are made
   pub run_is : (u : BusModel hs ds) (r : Running hs ds) (n l : ℕ) → n ≤ 1000000 → r.ticks ≤ n → l ≡ load r.busy r.ticks →

@@ -1,5 +1,5 @@
 -- The worked examples, computed.
-use Rattle.std.proofs.Common.{◌≡◌, ℕ, false, List, [], ◌∷◌, replicate, slice_set, Some, None, Option, refl, arith}
+use Rattle.std.proofs.Common.{◌≡◌, ℕ, List, [], ◌∷◌, Some, None, Option, refl, ◌∙◌, ap₂}
 use Rattle.transfer.specs.declared.draft.Transfer.{Transfer}
 use Rattle.transfer.specs.Drafts.{TransferModel, transfer_model}
 use Rattle.transfer.specs.Outcomes.{OutcomeModel}
@@ -9,7 +9,7 @@ use Rattle.device.specs.RegisterFiles.{Registers, new_registers, register_file}
 use Rattle.law.specs.Banks.{Bank}
 use Rattle.law.specs.Books.{Standing, unarmed, armed, Entry, least, told_all, devices_after, leave_all}
 use Rattle.law.specs.Carrying.{Placed, Carried, carried}
-use Rattle.law.specs.Examples.{RefusedExamples, StringExamples, TurnExamples, WorkedExamples, two_hosts, open_book, Turn, Wins, placed, write, read_of, write_read, done, pointed_at, busy_registers}
+use Rattle.law.specs.Examples.{RefusedExamples, StringExamples, TurnExamples, WorkedExamples, two_hosts, open_book, Turn, Wins, placed, write, read_of, write_read, done, pointed_at, busy_registers, stored_at_3}
 
 module _ (b : Behaviour) (m : b.Meaning) where
   -- both carried alone, who is told what, and the device after it
@@ -31,7 +31,13 @@ module _ (b : Behaviour) (m : b.Meaning) where
       tells a c ≡ told_0 ∷ told_1 ∷ [] → device_after a c ≡ placed b after →
       (standings f g a c).0.standing ≡ standing_0 → (standings f g a c).1.0.standing ≡ standing_1 →
       Turn b f g m told_0 told_1 after standing_0 standing_1
-  turn f g a c told_0 told_1 after standing_0 standing_1 h k e d q r = grind arith
+  turn f g a c told_0 told_1 after standing_0 standing_1 e h t d x y =
+      record {
+        told = ap₂ (λ p q. tells p q) e h ∙ t;
+        device = ap₂ (λ p q. device_after p q) e h ∙ d;
+        first = ap₂ (λ p q. (standings f g p q).0.standing) e h ∙ x;
+        second = ap₂ (λ p q. (standings f g p q).1.0.standing) e h ∙ y;
+      }
 
 wins : (a c : TransferModel) (xs : List ℕ) (after : Registers) →
     tells register_file new_registers a c ≡ done xs ∷ None ∷ [] → device_after register_file new_registers a c ≡ placed register_file after →
@@ -39,8 +45,18 @@ wins : (a c : TransferModel) (xs : List ℕ) (after : Registers) →
     Wins a c xs after
 wins a c xs after t d x y f g e h = turn register_file new_registers f g a c (done xs) None after unarmed armed e h t d (x f g) (y f g)
 
-pub strings : StringExamples
-strings = grind arith
+strings : StringExamples
+strings =
+    record {
+      write_of_one = refl;
+      no_port_answers = refl;
+      select_gets_no = refl;
+      put_gets_no = refl;
+      read_of_two = refl;
+      write_then_read = refl;
+      finish_at_restart = refl;
+      finish_at_stop = refl;
+    }
 
 turns : TurnExamples
 turns =
@@ -52,11 +68,23 @@ turns =
       more_over_fewer = wins (read_of 3) (read_of 2) (0 ∷ 0 ∷ 0 ∷ []) (pointed_at 3) refl refl (λ f g. refl) (λ f g. refl);
       equal_writes = λ f g e h.
           turn (busy_over register_file) (busy_registers 0 new_registers) f g (write (0x03 ∷ 0x12 ∷ [])) (write (0x03 ∷ 0x12 ∷ [])) (done []) (done [])
-          (busy_registers 1 (record { bytes = slice_set (replicate 16 0) 3 0x12; pointer = 4; awaits = false })) unarmed unarmed e h refl refl refl refl;
+          (busy_registers 1 (stored_at_3 4)) unarmed unarmed e h refl refl refl refl;
     }
 
 refusals : RefusedExamples
-refusals = grind arith
+refusals =
+    record {
+      address_7 = refl;
+      address_120 = refl;
+      address_8 = refl;
+      address_119 = refl;
+      counts_0_1 = refl;
+      counts_1_255 = refl;
+      read_0 = λ d. refl;
+      read_17 = λ d. refl;
+      write_17 = λ xs d e. rw e;
+      read_16 = λ d. refl;
+    }
 
 pub worked_examples : WorkedExamples
-worked_examples = record { refusals = refusals; turns = turns; queue = record { joined = refl; taken = refl } }
+worked_examples = record { refusals = refusals; strings = strings; turns = turns; queue = record { joined = refl; taken = refl } }

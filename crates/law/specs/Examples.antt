@@ -180,7 +180,7 @@ pub record TurnExamples : Type 0 where
   -- two equal writes are one turn that tells both; the device takes its steps once, as a busy layer shows
   pub equal_writes : (f g : Transfer) → transfer_model f ≡ write (0x03 ∷ 0x12 ∷ []) → transfer_model g ≡ write (0x03 ∷ 0x12 ∷ []) →
       Turn (busy_over register_file) f g (busy_registers 0 new_registers) (done []) (done [])
-      (busy_registers 1 (record { bytes = slice_set (replicate 16 0) 3 0x12; pointer = 4; awaits = false })) unarmed unarmed
+      (busy_registers 1 (stored_at_3 4)) unarmed unarmed
 
 -- two queues at one address
 abbrev pub two_queues : List Behaviour
@@ -198,5 +198,6 @@ pub record QueueExample : Type 0 where
 
 pub record WorkedExamples : Type 0 where
   pub refusals : RefusedExamples
+  pub strings : StringExamples
   pub turns : TurnExamples
   pub queue : QueueExample

@@ -1,8 +1,7 @@
 // What is proved of the definitions, each on the contract of a function.
-ghost use Rattle.law.specs.Examples.{StringExamples, WorkedExamples};
+ghost use Rattle.law.specs.Examples.{WorkedExamples};
 
-// The worked examples of the refusals, of a transfer carried alone and of the turn book, and whole strings letter by letter.
+// The worked examples of the refusals, of a transfer carried alone, letter by letter, and of the turn book.
 pub fn worked_examples()
-    ensures examples { WorkedExamples }
-    ensures strings { StringExamples }
+    ensures { WorkedExamples }
 {}

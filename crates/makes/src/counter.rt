@@ -24,10 +24,7 @@ impl Device for Counter {
     ghost means = { counted };
 
     fn select(&mut self, direction: Direction) -> bool {
-        match direction {
-            Direction::Write => false,
-            Direction::Read => true,
-        }
+        matches!(direction, Direction::Read)
     }
 
     fn put(&mut self, _byte: u8) -> bool {

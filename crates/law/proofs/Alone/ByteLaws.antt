@@ -1,7 +1,7 @@
 -- The laws of bytes: who took an acknowledged byte, and who gave a byte that was read.
 use Rattle.std.proofs.Common.{◌≡◌, ℕ, zero, suc, ◌+◌, ◌-◌, ◌*◌, ◌<◌, Bool, true, false, cond, ◌&&◌, ◌↔◌, List, [], ◌∷◌, length, get_or, take, sym, refl, ◌∙◌, inl, inr, mod-eq_of_lt, arith}
 use lib.Bits.{bit_and, and_mask, and_comm}
-use Rattle.std.proofs.lemmas.Bool.{lt-ltb, or_cases, or_parts, false≢true}
+use Rattle.std.proofs.lemmas.Bool.{lt-ltb, or_cases, or_parts}
 use Rattle.transfer.specs.declared.leg.Direction.{Direction}
 use Rattle.transfer.specs.declared.leg.Direction.TheVariants.{Write, Read}
 use Rattle.transfer.specs.declared.outcome.OutcomeKind.TheVariants.{Done, NoAnswer, Refused}
@@ -20,7 +20,7 @@ and_true x y = grind arith
 
 some_each : {F G : Behaviour → Type 0} (g : (b : Behaviour) → F b → G b) (q : (b : Behaviour) → G b → Bool) (A R : (b : Behaviour) → F b → Type 0) →
     ((b : Behaviour) (x : F b) → A b x → q b (g b x) ≡ true → R b x) → (ds : List Behaviour) (d : Bank F ds) → Every A ds d → any q ds (each g ds d) ≡ true → Exists R ds d
-some_each g q A R f [] d h e = absurd (false≢true e)
+some_each g q A R f [] d h e = cc
 some_each g q A R f (b ∷ ds) d h e = elim (or_cases (q b (g b d.0)) (any q ds (each g ds d.1)) e) [
   | inl i ↦ inl (f b d.0 h.0 i)
   | inr i ↦ inr (some_each g q A R f ds d.1 h.1 i)
@@ -72,7 +72,7 @@ module _ (ds : List Behaviour) where
 
   heard_so : (l : ℕ) (xs : List ℕ) (n : ℕ) (e : Bank Taking ds) (y : ℕ) → y < length xs → get_or (written ds l xs n e).levels (9 * y + 8) true ≡ false →
       somebody ds (put_to_all ds (get_or xs y 0) (having ds (take y xs) e)) ≡ true
-  heard_so l [] n e y h q = absurd (omega arith)
+  heard_so l [] n e y h q = cc
   heard_so l (x ∷ xs) n e zero h q = let w = put_to_all ds x e in
       ninth x (written ds l xs (suc n) w) (ends ds (Refused (record { leg = l; byte = n })) w) (somebody ds w) q
   heard_so l (x ∷ xs) n e (suc y) h q = let w = put_to_all ds x e in

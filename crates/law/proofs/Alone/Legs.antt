@@ -69,7 +69,7 @@ here : (xs : List ℕ) (y x : ℕ) (zs : List ℕ) → drop y xs ≡ x ∷ zs �
 here [] zero x zs e = cc
 here [] (suc y) x zs e = cc
 here (w ∷ ws) zero x zs e = record { found = cc; rest = cc; inside = omega arith }
-here (w ∷ ws) (suc y) x zs e = let r = here ws y x zs e in record { found = r.found; rest = r.rest; inside = omega arith }
+here (w ∷ ws) (suc y) x zs e = grind (arith, here ws y)
 
 over : (xs : List ℕ) (y : ℕ) → drop y xs ≡ [] → length xs ≤ y
 over [] y e = omega arith

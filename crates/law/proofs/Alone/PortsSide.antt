@@ -1,5 +1,5 @@
 -- All ports as the far side that a script is played against, and how it follows the ports at each event.
-use Rattle.std.proofs.Common.{◌≡◌, ℕ, Bool, ◌||◌, List, [], ◌∷◌, Some, None, Option, refl, ap, arith}
+use Rattle.std.proofs.Common.{◌≡◌, ℕ, Bool, List, [], ◌∷◌, Some, None, Option, refl, arith}
 use Rattle.device.specs.Behaviours.{Behaviour}
 use Rattle.port.specs.declared.port.Mode.{Mode}
 use Rattle.port.specs.declared.port.Mode.TheVariants.{Out, Addressing}
@@ -63,20 +63,8 @@ module _ (b : Behaviour) where
 
 follows : (ds : List Behaviour) (s : Bank PortModel ds) (e : Event) (o : Option Bool) (i : Bool) (a : Holds ds) →
     each unheld ds (ports_step ds s (record { event = e; bit = o; idle = i }) a) ≡ side_sees ds e o (each unheld ds s)
-follows [] s Start o i a = refl
-follows [] s Stop o i a = refl
-follows [] s Fall None i a = refl
-follows [] s Fall (Some x) i a = refl
-follows [] s SteadyLow o i a = refl
-follows [] s SteadyHigh o i a = refl
-follows [] s (Rise x) o i a = refl
-follows (b ∷ ds) s Start o i a = ap (λ r. (unheld b (starting b s.0), r)) (follows ds s.1 Start o i a.1)
-follows (b ∷ ds) s Stop o i a = ap (λ r. (unheld b (stopping b s.0), r)) (follows ds s.1 Stop o i a.1)
-follows (b ∷ ds) s Fall None i a = ap (λ r. (unheld b s.0, r)) (follows ds s.1 Fall None i a.1)
-follows (b ∷ ds) s Fall (Some x) i a = λ j. (unheld_counts b s.0 s.0.mode x a.0.0 j, follows ds s.1 Fall (Some x) i a.1 j)
-follows (b ∷ ds) s SteadyLow o i a = ap (λ r. (unheld b s.0, r)) (follows ds s.1 SteadyLow o i a.1)
-follows (b ∷ ds) s SteadyHigh o i a = ap (λ r. (unheld b s.0, r)) (follows ds s.1 SteadyHigh o i a.1)
-follows (b ∷ ds) s (Rise x) o i a = ap (λ r. (unheld b s.0, r)) (follows ds s.1 (Rise x) o i a.1)
+follows [] s e o i a = grind arith
+follows (b ∷ ds) s e o i a = grind (arith, unheld_counts b s.0 s.0.mode, follows ds s.1 e o i a.1)
 
 -- at every signal the ports, but for what they hold, go as the side does
 pub side_follows : (ds : List Behaviour) (s : Bank PortModel ds) (v : Signal) (a : Holds ds) → each unheld ds (ports_step ds s v a) ≡ side_sees ds v.event v.bit (each unheld ds s)
@@ -85,4 +73,4 @@ side_follows ds s v a = follows ds s v.event v.bit v.idle a
 -- the ports pull SDA exactly if the side does
 pub side_pulls : (ds : List Behaviour) (s : Bank PortModel ds) → (all_pulls (listed port_pulls ds s)).sda ≡ (ports_side ds).pulls (each unheld ds s)
 side_pulls [] s = refl
-side_pulls (b ∷ ds) s = ap (λ r. mode_pulls s.0.mode || r) (side_pulls ds s.1)
+side_pulls (b ∷ ds) s = grind (arith, side_pulls ds)

@@ -2,7 +2,7 @@
 use Rattle.std.proofs.Common.{◌≡◌, ℕ, suc, ◌≤◌, Bool, cond, ltb, ◌⊎◌, List, [], ◌∷◌, ◌++◌, map, length, get_or, Some, None, Option, sym, refl, ap, ◌∙◌, inl, inr, append_assoc, le_refl, arith}
 use Rattle.std.proofs.Math.Seq.{get_or-append_seam}
 use lib.ListN.{length-map}
-use Rattle.std.proofs.lemmas.Bool.{eq-eqb, ne_eqb}
+use Rattle.std.proofs.lemmas.Bool.{ne_eqb}
 use Rattle.transfer.specs.declared.outcome.OutcomeKind.{OutcomeKind}
 use Rattle.transfer.specs.declared.outcome.OutcomeKind.TheVariants.{Done, NoAnswer, Refused}
 use Rattle.transfer.specs.Drafts.{TransferModel}
@@ -109,7 +109,7 @@ bits_decide ts us p h = let k = length p.front in
 
 first_by_letter : (ts : List Letter) (t u : Letter) (vs ws : List Letter) → (t ≡ u → ⊥) → first_or_same (ts ++ (t ∷ vs)) (ts ++ (u ∷ ws)) ≡ ltb (rank t) (rank u)
 first_by_letter [] t u vs ws d = rw (ne_eqb (rank t) (rank u) (λ e. d (same_rank t u e)))
-first_by_letter (r ∷ ts) t u vs ws d = rw (eq-eqb (rank r) (rank r) refl) (first_by_letter ts t u vs ws d)
+first_by_letter (r ∷ ts) t u vs ws d = grind (arith, first_by_letter ts)
 
 module _ (W : Script) (D : Side) where
   bounded : (n : ℕ) (c : W.Cursor) (s : D.S) → length (string W D n c s) ≤ n

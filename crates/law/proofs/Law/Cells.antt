@@ -3,9 +3,9 @@ use Rattle.std.proofs.Common.{◌≡◌, ℕ, zero, suc, Bool, true, false, not,
 use Rattle.master.specs.declared.symbol.Symbol.{Symbol}
 use Rattle.master.specs.Masters.{ArmingModel, MasterModel, VerdictModel, quiet, lost, arms, arm_master}
 use Rattle.master.specs.Scripts.{Script}
-use Rattle.law.proofs.Law.Phases.{rank, Cell, out, live, off, looks, notes, cursor, cursors, some, alive, Every, Times, Timed, who, stay_if, stay, advance, done_if, finished, claim, claim_all}
+use Rattle.law.proofs.Law.Phases.{rank, Cell, out, live, off, looks, notes, cursor, cursors, some, alive, Every, Times, Timed, who, stay, advance, finished, claim_all}
 use Rattle.law.proofs.Law.Race.{at}
-use Rattle.law.proofs.Law.Uses.{Tasks, count, any, armed_if, arm_book, nobody, task_of, armeds, pulling, is_lost, telling, tellings, arm_masters, begin_one, begins, falses, marks_too}
+use Rattle.law.proofs.Law.Uses.{Tasks, count, any, armed_if, arm_book, nobody, task_of, armeds, pulling, is_lost, telling, tellings, arm_masters, begins, falses, marks_too}
 
 pub armed_same : {A : Type 0} → (o w : Option A) → is_some o ≡ true → armed_if o w ≡ o
 armed_same o w h = grind arith
@@ -62,107 +62,67 @@ module _ (W : Script) where
   marked f (o ∷ l) (c ∷ cs) = (is_some o && gone f c) ∷ marked f l cs
 
   -- a slot's survivors
-  stay_armed : (v : Bool) (m : MasterModel W) (p : W.Cursor) → task_of W (who W (stay_if W v m p)).arming ≡ task_of W m.arming
-  stay_armed v m p = grind arith
-
   pub armeds_stay : (n : ℕ) (cs : List (Cell W)) → cell_armeds (stay W n cs) ≡ cell_armeds cs
   armeds_stay n [] = refl
-  armeds_stay n (out m ∷ cs) = ap (λ l. task_of W m.arming ∷ l) (armeds_stay n cs)
-  armeds_stay n (live m p ∷ cs) = ap₂ ◌∷◌ (stay_armed (eqb (rank (W.symbol p)) n) m p) (armeds_stay n cs)
+  armeds_stay n (c ∷ cs) = grind (arith, armeds_stay n cs)
 
   pub armeds_advance : (b : Bool) (cs : List (Cell W)) → cell_armeds (advance W b cs) ≡ cell_armeds cs
   armeds_advance b [] = refl
-  armeds_advance b (out m ∷ cs) = ap (λ l. task_of W m.arming ∷ l) (armeds_advance b cs)
-  armeds_advance b (live m p ∷ cs) = ap (λ l. task_of W m.arming ∷ l) (armeds_advance b cs)
-
-  stay_holding : (v : Bool) (m : MasterModel W) (p : W.Cursor) (cs : List (Cell W)) → is_some (task_of W m.arming) ≡ true → Holding cs → Holding (stay_if W v m p ∷ cs)
-  stay_holding v m p cs h k = grind arith
+  armeds_advance b (c ∷ cs) = grind (arith, armeds_advance b cs)
 
   pub holding_stay : (n : ℕ) (cs : List (Cell W)) → Holding cs → Holding (stay W n cs)
   holding_stay n [] h = tt
-  holding_stay n (out m ∷ cs) h = holding_stay n cs h
-  holding_stay n (live m p ∷ cs) h = stay_holding (eqb (rank (W.symbol p)) n) m p (stay W n cs) h.0 (holding_stay n cs h.1)
+  holding_stay n (c ∷ cs) h = grind (arith, holding_stay n cs)
 
   pub holding_advance : (b : Bool) (cs : List (Cell W)) → Holding cs → Holding (advance W b cs)
   holding_advance b [] h = tt
-  holding_advance b (out m ∷ cs) h = holding_advance b cs h
-  holding_advance b (live m p ∷ cs) h = (h.0, holding_advance b cs h.1)
-
-  stay_within : (v : Bool) (m : MasterModel W) (p : W.Cursor) (o : Option W.Task) (l : Tasks W) (cs : List (Cell W)) → is_some o ≡ true → Within l cs → Within (o ∷ l) (stay_if W v m p ∷ cs)
-  stay_within v m p o l cs h k = grind arith
+  holding_advance b (c ∷ cs) h = grind (arith, holding_advance b cs)
 
   pub within_stay : (n : ℕ) (l : Tasks W) (cs : List (Cell W)) → Within l cs → Within l (stay W n cs)
   within_stay n [] [] h = tt
   within_stay n [] (c ∷ cs) h = absurd h
   within_stay n (o ∷ l) [] h = h
-  within_stay n (o ∷ l) (out m ∷ cs) h = within_stay n l cs h
-  within_stay n (o ∷ l) (live m p ∷ cs) h = stay_within (eqb (rank (W.symbol p)) n) m p o l (stay W n cs) h.0 (within_stay n l cs h.1)
+  within_stay n (o ∷ l) (c ∷ cs) h = grind (arith, within_stay n l cs)
 
   pub within_advance : (b : Bool) (l : Tasks W) (cs : List (Cell W)) → Within l cs → Within l (advance W b cs)
   within_advance b [] [] h = tt
   within_advance b [] (c ∷ cs) h = absurd h
   within_advance b (o ∷ l) [] h = h
-  within_advance b (o ∷ l) (out m ∷ cs) h = within_advance b l cs h
-  within_advance b (o ∷ l) (live m p ∷ cs) h = (h.0, within_advance b l cs h.1)
+  within_advance b (o ∷ l) (c ∷ cs) h = grind (arith, within_advance b l cs)
 
   -- the stop
-  done_holding : (v : Bool) (m : MasterModel W) (cs : List (Cell W)) → Holding cs → Holding (done_if W v m ∷ cs)
-  done_holding v m cs h = grind arith
-
   pub holding_finished : (cs : List (Cell W)) → Holding (finished W cs)
   holding_finished [] = tt
-  holding_finished (out m ∷ cs) = holding_finished cs
-  holding_finished (live m p ∷ cs) = done_holding (eqb (rank (W.symbol p)) 1) m (finished W cs) (holding_finished cs)
+  holding_finished (c ∷ cs) = grind (arith, holding_finished cs)
 
   -- the claim
-  claim_who : (m : MasterModel W) (a : ArmingModel W) → who W (claim W m a) ≡ m
-  claim_who m a = grind arith
-
   pub armeds_claim : (cs : List (Cell W)) → cell_armeds (claim_all W cs) ≡ cell_armeds cs
   armeds_claim [] = refl
-  armeds_claim (c ∷ cs) = ap₂ ◌∷◌ (ap (λ m. task_of W m.arming) (claim_who (who W c) (who W c).arming)) (armeds_claim cs)
-
-  claim_cursor : (m : MasterModel W) (a : ArmingModel W) → cursor W (claim W m a) ≡ begin_one W (task_of W a)
-  claim_cursor m a = grind arith
+  armeds_claim (c ∷ cs) = grind (arith, armeds_claim cs)
 
   pub cursors_claim : (cs : List (Cell W)) → cursors W (claim_all W cs) ≡ begins W (cell_armeds cs)
   cursors_claim [] = refl
-  cursors_claim (c ∷ cs) = ap₂ ◌∷◌ (claim_cursor (who W c) (who W c).arming) (cursors_claim cs)
-
-  claim_times : (m : MasterModel W) (a : ArmingModel W) → Times W m → Times W (who W (claim W m a))
-  claim_times m a h = grind arith
+  cursors_claim (c ∷ cs) = grind (arith, cursors_claim cs)
 
   pub timed_claim : (cs : List (Cell W)) → Timed W cs → Timed W (claim_all W cs)
   timed_claim [] t = tt
-  timed_claim (c ∷ cs) t = (claim_times (who W c) (who W c).arming t.0, timed_claim cs t.1)
-
-  claim_holding : (m : MasterModel W) (a : ArmingModel W) (cs : List (Cell W)) → m.arming ≡ a → Holding cs → Holding (claim W m a ∷ cs)
-  claim_holding m a cs h k = grind arith
+  timed_claim (c ∷ cs) t = grind (arith, timed_claim cs)
 
   pub holding_claim : (cs : List (Cell W)) → Holding (claim_all W cs)
   holding_claim [] = tt
-  holding_claim (c ∷ cs) = claim_holding (who W c) (who W c).arming (claim_all W cs) refl (holding_claim cs)
-
-  claim_within : (m : MasterModel W) (a : ArmingModel W) (l : Tasks W) (cs : List (Cell W)) → Within l cs → Within (task_of W a ∷ l) (claim W m a ∷ cs)
-  claim_within m a l cs h = grind arith
+  holding_claim (c ∷ cs) = grind (arith, holding_claim cs)
 
   pub within_claim : (cs : List (Cell W)) → Within (cell_armeds cs) (claim_all W cs)
   within_claim [] = tt
-  within_claim (c ∷ cs) = claim_within (who W c) (who W c).arming (cell_armeds cs) (claim_all W cs) (within_claim cs)
-
-  claim_alive : (m : MasterModel W) (a : ArmingModel W) (cs : List (Cell W)) → alive W (claim W m a ∷ cs) ≡ (is_some (task_of W a) || alive W cs)
-  claim_alive m a cs = grind arith
+  within_claim (c ∷ cs) = grind (arith, within_claim cs)
 
   pub alive_claim : (cs : List (Cell W)) → alive W (claim_all W cs) ≡ any (cell_armeds cs)
   alive_claim [] = refl
-  alive_claim (c ∷ cs) = claim_alive (who W c) (who W c).arming (claim_all W cs) ∙ ap (λ v. is_some (task_of W (who W c).arming) || v) (alive_claim cs)
-
-  claim_marked : (m : MasterModel W) (a : ArmingModel W) → false ≡ (is_some (task_of W a) && gone never (claim W m a))
-  claim_marked m a = grind arith
+  alive_claim (c ∷ cs) = grind (arith, alive_claim cs)
 
   pub marked_claim : (cs : List (Cell W)) → falses (cell_armeds cs) ≡ marked never (cell_armeds cs) (claim_all W cs)
   marked_claim [] = refl
-  marked_claim (c ∷ cs) = ap₂ ◌∷◌ (claim_marked (who W c) (who W c).arming) (marked_claim cs)
+  marked_claim (c ∷ cs) = grind (arith, marked_claim cs)
 
   -- who was marked, after verdicts and after a slot; g: whom the verdicts mark
   pub marked_more : (f g : Symbol → Bool) (k : Symbol → W.Cursor → VerdictModel W) (each : (x : Symbol) (p : W.Cursor) → is_lost W (k x p) ≡ g x)
@@ -174,36 +134,29 @@ module _ (W : Script) where
   marked_more f g k each (o ∷ l) (live m p ∷ cs) h =
       ap₂ ◌∷◌ (ap (λ v. (is_some o && f (W.symbol p)) || v) (each (W.symbol p) p) ∙ mark_one (is_some o) (f (W.symbol p)) (g (W.symbol p)) h.0) (marked_more f g k each l cs h.1)
 
-  stay_marked : (v a : Bool) (m : MasterModel W) (p : W.Cursor) → a ≡ not v → a ≡ gone never (stay_if W v m p)
-  stay_marked v a m p h = grind arith
-
   pub marked_stay : (f : Symbol → Bool) (n : ℕ) (l : Tasks W) (cs : List (Cell W)) → Every W (λ x. f x ≡ not (eqb (rank x) n)) cs → marked f l cs ≡ marked never l (stay W n cs)
   marked_stay f n [] cs h = refl
   marked_stay f n (o ∷ l) [] h = refl
-  marked_stay f n (o ∷ l) (out m ∷ cs) h = ap (λ v. (is_some o && true) ∷ v) (marked_stay f n l cs h)
-  marked_stay f n (o ∷ l) (live m p ∷ cs) h = ap₂ (λ a v. (is_some o && a) ∷ v) (stay_marked (eqb (rank (W.symbol p)) n) (f (W.symbol p)) m p h.0) (marked_stay f n l cs h.1)
+  marked_stay f n (o ∷ l) (c ∷ cs) h = grind (arith, marked_stay f n l cs)
 
   pub marked_advance : (b : Bool) (l : Tasks W) (cs : List (Cell W)) → marked never l (advance W b cs) ≡ marked never l cs
   marked_advance b [] cs = refl
   marked_advance b (o ∷ l) [] = refl
-  marked_advance b (o ∷ l) (out m ∷ cs) = ap (λ v. (is_some o && true) ∷ v) (marked_advance b l cs)
-  marked_advance b (o ∷ l) (live m p ∷ cs) = ap (λ v. (is_some o && false) ∷ v) (marked_advance b l cs)
+  marked_advance b (o ∷ l) (c ∷ cs) = grind (arith, marked_advance b l cs)
 
   -- who is marked now was live, and whoever is live and does not pass the test was not marked
   pub note_at : (k : Symbol → W.Cursor → VerdictModel W) (cs : List (Cell W)) (i : ℕ) → get_or (notes W k cs) i quiet ≡ lost → (p : W.Cursor) × (at (cursors W cs) i ≡ Some p) × (k (W.symbol p) p ≡ lost)
   note_at k [] i h = cc
   note_at k (out m ∷ cs) zero h = cc
   note_at k (live m p ∷ cs) zero h = (p, refl, h)
-  note_at k (out m ∷ cs) (suc i) h = note_at k cs i h
-  note_at k (live m p ∷ cs) (suc i) h = note_at k cs i h
+  note_at k (c ∷ cs) (suc i) h = grind (arith, note_at k cs)
 
   pub unmarked : (f : Symbol → Bool) (l : Tasks W) (cs : List (Cell W)) (i : ℕ) (p : W.Cursor) → at (cursors W cs) i ≡ Some p → f (W.symbol p) ≡ false → get_or (marked f l cs) i false ≡ false
   unmarked f [] cs i p e h = refl
   unmarked f (o ∷ l) [] i p e h = refl
   unmarked f (o ∷ l) (out m ∷ cs) zero p e h = cc
   unmarked f (o ∷ l) (live m q ∷ cs) zero p e h = let z : q ≡ p = cc in false_and (is_some o) (f (W.symbol q)) (ap (λ r. f (W.symbol r)) z ∙ h)
-  unmarked f (o ∷ l) (out m ∷ cs) (suc i) p e h = unmarked f l cs i p e h
-  unmarked f (o ∷ l) (live m q ∷ cs) (suc i) p e h = unmarked f l cs i p e h
+  unmarked f (o ∷ l) (c ∷ cs) (suc i) p e h = grind (arith, unmarked f l cs)
 
   pub contender : (l : Tasks W) (cs : List (Cell W)) → Within l cs → (i : ℕ) (p : W.Cursor) → at (cursors W cs) i ≡ Some p → (q : W.Task) × (at l i ≡ Some q)
   contender [] [] h i p e = cc
@@ -211,8 +164,7 @@ module _ (W : Script) where
   contender (o ∷ l) [] h i p e = absurd h
   contender (o ∷ l) (out m ∷ cs) h zero p e = cc
   contender (o ∷ l) (live m q ∷ cs) h zero p e = some_of o h.0
-  contender (o ∷ l) (out m ∷ cs) h (suc i) p e = contender l cs h i p e
-  contender (o ∷ l) (live m q ∷ cs) h (suc i) p e = contender l cs h.1 i p e
+  contender (o ∷ l) (c ∷ cs) h (suc i) p e = grind (arith, contender l cs)
 
   -- who was marked pulls nothing
   pub pulls_nothing : (f : Symbol → Bool) (g : MasterModel W → W.Cursor → MasterModel W) (each : (m : MasterModel W) (p : W.Cursor) → f (W.symbol p) ≡ true → ((g m p).pulls.scl || (g m p).pulls.sda) ≡ false)
@@ -221,19 +173,16 @@ module _ (W : Script) where
   pulls_nothing f g each (o ∷ l) [] i h = cc
   pulls_nothing f g each (o ∷ l) (out m ∷ cs) zero h = refl
   pulls_nothing f g each (o ∷ l) (live m p ∷ cs) zero h = each m p (and_right (is_some o) (f (W.symbol p)) h)
-  pulls_nothing f g each (o ∷ l) (out m ∷ cs) (suc i) h = pulls_nothing f g each l cs i h
-  pulls_nothing f g each (o ∷ l) (live m p ∷ cs) (suc i) h = pulls_nothing f g each l cs i h
+  pulls_nothing f g each (o ∷ l) (c ∷ cs) (suc i) h = grind (arith, pulls_nothing f g each l cs)
 
   pub armeds_looks : (f : MasterModel W → W.Cursor → MasterModel W) (keeps : (m : MasterModel W) (p : W.Cursor) → (f m p).arming ≡ m.arming) (cs : List (Cell W)) → armeds W (looks W f cs) ≡ cell_armeds cs
   armeds_looks f keeps [] = refl
-  armeds_looks f keeps (out m ∷ cs) = ap (λ l. task_of W m.arming ∷ l) (armeds_looks f keeps cs)
-  armeds_looks f keeps (live m p ∷ cs) = ap₂ ◌∷◌ (ap (task_of W) (keeps m p)) (armeds_looks f keeps cs)
+  armeds_looks f keeps (c ∷ cs) = grind (arith, armeds_looks f keeps cs)
 
   -- whom a tick tells
   pub tells_none : (k : Symbol → W.Cursor → VerdictModel W) (mute : (x : Symbol) (p : W.Cursor) → telling W (k x p) ≡ None) (cs : List (Cell W)) → tellings W (notes W k cs) ≡ nobody (cell_armeds cs)
   tells_none k mute [] = refl
-  tells_none k mute (out m ∷ cs) = ap (λ l. None ∷ l) (tells_none k mute cs)
-  tells_none k mute (live m p ∷ cs) = ap₂ ◌∷◌ (mute (W.symbol p) p) (tells_none k mute cs)
+  tells_none k mute (c ∷ cs) = grind (arith, tells_none k mute cs)
 
 -- an arm, in the middle of a turn too
 module _ (W : Script) where
@@ -265,16 +214,14 @@ module _ (W : Script) where
   arm_looks f keeps (c ∷ cs) [] i h = refl
   arm_looks f keeps (out m ∷ cs) (w ∷ ws) zero h = ap (λ x. x ∷ looks W f cs) (arm_off m m.arming w)
   arm_looks f keeps (live m p ∷ cs) (w ∷ ws) zero h = ap (λ x. x ∷ looks W f cs) (arm_none (f m p) (f m p).arming w (ap (λ a. is_some (task_of W a)) (keeps m p) ∙ h.0))
-  arm_looks f keeps (out m ∷ cs) (w ∷ ws) (suc i) h = ap (λ l. off W m ∷ l) (arm_looks f keeps cs ws i h)
-  arm_looks f keeps (live m p ∷ cs) (w ∷ ws) (suc i) h = ap (λ l. f m p ∷ l) (arm_looks f keeps cs ws i h.1)
+  arm_looks f keeps (c ∷ cs) (w ∷ ws) (suc i) h = grind (arith, arm_looks f keeps cs)
 
   pub arm_armeds : (cs : List (Cell W)) (ws : Tasks W) (i : ℕ) → Holding W cs → arm_book (cell_armeds W cs) ws i ≡ cell_armeds W (arm_cells cs ws i)
   arm_armeds [] ws i h = refl
   arm_armeds (c ∷ cs) [] i h = refl
   arm_armeds (out m ∷ cs) (w ∷ ws) zero h = ap (λ x. x ∷ cell_armeds W cs) (arm_task m m.arming w refl)
   arm_armeds (live m p ∷ cs) (w ∷ ws) zero h = ap (λ x. x ∷ cell_armeds W cs) (armed_same (task_of W m.arming) w h.0)
-  arm_armeds (out m ∷ cs) (w ∷ ws) (suc i) h = ap (λ l. task_of W m.arming ∷ l) (arm_armeds cs ws i h)
-  arm_armeds (live m p ∷ cs) (w ∷ ws) (suc i) h = ap (λ l. task_of W m.arming ∷ l) (arm_armeds cs ws i h.1)
+  arm_armeds (c ∷ cs) (w ∷ ws) (suc i) h = grind (arith, arm_armeds cs)
 
   pub arm_timed : (cs : List (Cell W)) (ws : Tasks W) (i : ℕ) → Timed W cs → Timed W (arm_cells cs ws i)
   arm_timed [] ws i t = tt
@@ -288,8 +235,7 @@ module _ (W : Script) where
   arm_holding (c ∷ cs) [] i h = h
   arm_holding (out m ∷ cs) (w ∷ ws) zero h = h
   arm_holding (live m p ∷ cs) (w ∷ ws) zero h = h
-  arm_holding (out m ∷ cs) (w ∷ ws) (suc i) h = arm_holding cs ws i h
-  arm_holding (live m p ∷ cs) (w ∷ ws) (suc i) h = (h.0, arm_holding cs ws i h.1)
+  arm_holding (c ∷ cs) (w ∷ ws) (suc i) h = grind (arith, arm_holding cs)
 
   pub arm_within : (l : Tasks W) (cs : List (Cell W)) (ws : Tasks W) (i : ℕ) → Within W l cs → Within W l (arm_cells cs ws i)
   arm_within [] [] ws i h = tt
@@ -298,16 +244,14 @@ module _ (W : Script) where
   arm_within (o ∷ l) (c ∷ cs) [] i h = h
   arm_within (o ∷ l) (out m ∷ cs) (w ∷ ws) zero h = h
   arm_within (o ∷ l) (live m p ∷ cs) (w ∷ ws) zero h = h
-  arm_within (o ∷ l) (out m ∷ cs) (w ∷ ws) (suc i) h = arm_within l cs ws i h
-  arm_within (o ∷ l) (live m p ∷ cs) (w ∷ ws) (suc i) h = (h.0, arm_within l cs ws i h.1)
+  arm_within (o ∷ l) (c ∷ cs) (w ∷ ws) (suc i) h = grind (arith, arm_within l cs)
 
   pub arm_some : (f : Symbol → Bool) (cs : List (Cell W)) (ws : Tasks W) (i : ℕ) → some W f (arm_cells cs ws i) ≡ some W f cs
   arm_some f [] ws i = refl
   arm_some f (c ∷ cs) [] i = refl
   arm_some f (out m ∷ cs) (w ∷ ws) zero = refl
   arm_some f (live m p ∷ cs) (w ∷ ws) zero = refl
-  arm_some f (out m ∷ cs) (w ∷ ws) (suc i) = arm_some f cs ws i
-  arm_some f (live m p ∷ cs) (w ∷ ws) (suc i) = ap (λ v. f (W.symbol p) || v) (arm_some f cs ws i)
+  arm_some f (c ∷ cs) (w ∷ ws) (suc i) = grind (arith, arm_some f cs)
 
   pub arm_cursors : (cs : List (Cell W)) (ws : Tasks W) (i : ℕ) → cursors W (arm_cells cs ws i) ≡ cursors W cs
   arm_cursors [] ws i = refl
@@ -322,12 +266,11 @@ module _ (W : Script) where
   arm_marked f (o ∷ l) (c ∷ cs) [] i = refl
   arm_marked f (o ∷ l) (out m ∷ cs) (w ∷ ws) zero = refl
   arm_marked f (o ∷ l) (live m p ∷ cs) (w ∷ ws) zero = refl
-  arm_marked f (o ∷ l) (c ∷ cs) (w ∷ ws) (suc i) = ap (λ v. (is_some o && gone W f c) ∷ v) (arm_marked f l cs ws i)
+  arm_marked f (o ∷ l) (c ∷ cs) (w ∷ ws) (suc i) = grind (arith, arm_marked f l cs ws i)
 
   pub arm_advance : (b : Bool) (cs : List (Cell W)) (ws : Tasks W) (i : ℕ) → cursors W (advance W b (arm_cells cs ws i)) ≡ cursors W (advance W b cs)
   arm_advance b [] ws i = refl
   arm_advance b (c ∷ cs) [] i = refl
   arm_advance b (out m ∷ cs) (w ∷ ws) zero = refl
   arm_advance b (live m p ∷ cs) (w ∷ ws) zero = refl
-  arm_advance b (out m ∷ cs) (w ∷ ws) (suc i) = ap (λ l. None ∷ l) (arm_advance b cs ws i)
-  arm_advance b (live m p ∷ cs) (w ∷ ws) (suc i) = ap (λ l. Some (W.next p b) ∷ l) (arm_advance b cs ws i)
+  arm_advance b (c ∷ cs) (w ∷ ws) (suc i) = grind (arith, arm_advance b cs)

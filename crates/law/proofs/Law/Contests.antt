@@ -8,7 +8,7 @@ use Rattle.law.proofs.Law.Phases.{rank}
 use Rattle.law.proofs.Law.Race.{at, common, lexb, First, lead, keep, Joint, moved, slot, slots, opened, alone, alone_end, Laws}
 use Rattle.law.proofs.Law.Uses.{Tasks, same, begin_one, begins, task_string, pick, leader, wins, leader_side}
 use Rattle.law.proofs.Law.Order.{rank_inj, at_keep}
-use Rattle.law.proofs.Law.Fates.{not_end, next_live, next_side, slots_next, text, gone}
+use Rattle.law.proofs.Law.Fates.{next_live, next_side, slots_next, text, gone}
 use Rattle.law.proofs.Law.Wins.{Arbitrated, settled, lexb_anti, most, common_whole}
 use Rattle.law.proofs.Law.Runs.{Run, slots_last, spelled, rank_ends, after_stop}
 
@@ -58,7 +58,7 @@ module _ (W : Script) (D : Side) (left : W.Cursor → ℕ) where
   leader_has t (Some r ∷ l) s below zero p e h = go (leader W D left l s) refl
     where
       r_has : task_string W D left r s ≡ t
-      r_has = let z : r ≡ p = cc in ap (λ x. task_string W D left x s) z ∙ h
+      r_has = cc
 
       go : (o : Option W.Task) → leader W D left l s ≡ o → (q : W.Task) × (Some (pick W D left r o s) ≡ Some q) × (task_string W D left q s ≡ t)
       go None d = (r, refl, r_has)
@@ -123,12 +123,7 @@ module _ (W : Script) (D : Side) (left : W.Cursor → ℕ) (Alike : W.Cursor →
   fuel_final : (n m : ℕ) (p : W.Cursor) (s : D.S) → left p ≤ n → left p ≤ m → final W D n p s ≡ final W D m p s
   fuel_final zero m p s h k = absurd (omega (arith, laws.some_left p))
   fuel_final (suc n) zero p s h k = absurd (omega (arith, laws.some_left p))
-  fuel_final (suc n) (suc m) p s h k = elim (cases_Bool (ends (W.symbol p))) [
-    | inl d ↦ rw d refl
-    | inr d ↦
-        let x = laws.fewer p (heard D (W.symbol p) s) (not_end (W.symbol p) d) in
-        rw d (fuel_final n m (W.next p (heard D (W.symbol p) s)) (after D (W.symbol p) s) (omega arith) (omega arith))
-  ]
+  fuel_final (suc n) (suc m) p s h k = grind (arith, fuel_final n m)
 
   -- l: the contenders, t: the least of their strings
   module _ (l : Tasks W) (s0 : D.S) (k r : ℕ) (ps : List (Option W.Cursor)) (s : D.S) (run : Run W D left Alike (begins W l) s0 k r ps s) where

@@ -18,26 +18,20 @@ use Rattle.law.proofs.Law.Steps.{Fine, tick_stands}
 count_one : {A : Type 0} (o w : Option A) (os : List (Option A)) → count (armed_if o w ∷ os) ≡ count (o ∷ os) + accepted (answer_if o w)
 count_one o w os = grind arith
 
-count_same : {A : Type 0} (o : Option A) (os ps : List (Option A)) (n : ℕ) → count ps ≡ count os + n → count (o ∷ ps) ≡ count (o ∷ os) + n
-count_same o os ps n h = grind arith
-
 count_arm : {A : Type 0} (os ws : List (Option A)) (i : ℕ) → count (arm_book os ws i) ≡ count os + accepted (answer os ws i)
 count_arm [] ws i = omega arith
 count_arm (o ∷ os) [] i = omega arith
 count_arm (o ∷ os) (w ∷ ws) zero = count_one o w os
-count_arm (o ∷ os) (w ∷ ws) (suc i) = count_same o os (arm_book os ws i) (accepted (answer os ws i)) (count_arm os ws i)
+count_arm (o ∷ os) (w ∷ ws) (suc i) = grind (arith, count_arm os ws i)
 
 any_one : {A : Type 0} (o w : Option A) (b : Bool) → (is_some o || b) ≡ true → (is_some (armed_if o w) || b) ≡ true
 any_one o w b h = grind arith
-
-any_same : {A : Type 0} (o : Option A) (a b : Bool) → (a ≡ true → b ≡ true) → (is_some o || a) ≡ true → (is_some o || b) ≡ true
-any_same o a b h k = grind arith
 
 any_arm : {A : Type 0} (os ws : List (Option A)) (i : ℕ) → any os ≡ true → any (arm_book os ws i) ≡ true
 any_arm [] ws i h = h
 any_arm (o ∷ os) [] i h = h
 any_arm (o ∷ os) (w ∷ ws) zero h = any_one o w (any os) h
-any_arm (o ∷ os) (w ∷ ws) (suc i) h = any_same o (any os) (any (arm_book os ws i)) (any_arm os ws i) h
+any_arm (o ∷ os) (w ∷ ws) (suc i) h = grind (arith, any_arm os ws i)
 
 nobody_at : {A : Type 0} (B : Type 0) (os : List (Option A)) (i : ℕ) → at (nobody {B = B} os) i ≡ None
 nobody_at B [] i = refl
@@ -100,7 +94,7 @@ module _ (W : Script) where
 
   made_looks : (cs : List (ℕ × ℕ)) → fresh_masters W cs ≡ looks W (idling W) (made_cells cs)
   made_looks [] = refl
-  made_looks (c ∷ cs) = ap (λ l. new_master W c.0 c.1 ∷ l) (made_looks cs)
+  made_looks (c ∷ cs) = grind (arith, made_looks cs)
 
   made_armeds : (cs : List (ℕ × ℕ)) → armeds W (fresh_masters W cs) ≡ cell_armeds W (made_cells cs)
   made_armeds [] = refl
@@ -108,7 +102,7 @@ module _ (W : Script) where
 
   made_timed : (cs : List (ℕ × ℕ)) → Clocks cs → Timed W (made_cells cs)
   made_timed [] h = tt
-  made_timed (c ∷ cs) h = (record { low_from = h.0.0; low_to = h.0.1; high_from = h.0.2; high_to = h.0.3 }, made_timed cs h.1)
+  made_timed (c ∷ cs) h = grind (arith, made_timed cs)
 
   made_holding : (cs : List (ℕ × ℕ)) → Holding W (made_cells cs)
   made_holding [] = tt

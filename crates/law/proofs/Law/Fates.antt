@@ -12,7 +12,7 @@ use Rattle.law.proofs.Law.Lists.{rank_top}
 use Rattle.law.proofs.Law.Order.{rank_inj, top_listens, lead_least, lead_shown, at_keep, Kept, kept}
 
 pub not_end : (x : Symbol) → ends x ≡ false → x ≡ Stop → ⊥
-not_end x e d = let z : false ≡ true = cc in cc
+not_end x e d = cc
 
 pub lexb_same : (a : ℕ) (t u : List ℕ) → lexb (a ∷ t) (a ∷ u) ≡ lexb t u
 lexb_same a t u = rw (eq-eqb a a refl)
@@ -63,7 +63,7 @@ module _ (W : Script) (D : Side) where
 
   pub slots_next : (k : ℕ) (l : List (Option W.Cursor)) (s : D.S) → ends (lead W l) ≡ false →
       slots W D (suc k) (opened W D l s) ≡ slots W D k (opened W D (next_live l s) (next_side l s))
-  slots_next k l s e = ap (slots W D k) (moves l s e)
+  slots_next k l s e = cc
 
   pub keeps : (x : Symbol) (b : Bool) (p : W.Cursor) → W.symbol p ≡ x → keep W x b (Some p) ≡ Some (W.next p b)
   keeps x b p e = rw (eq-eqb (rank x) (rank (W.symbol p)) (ap rank (sym e)))

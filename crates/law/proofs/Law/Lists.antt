@@ -1,5 +1,5 @@
 -- One event for a whole list of masters, from what it makes of one; and what holds of the least rank shown.
-use Rattle.std.proofs.Common.{◌≡◌, ℕ, ◌≤◌, Bool, true, false, ◌||◌, List, [], ◌∷◌, refl, ap, ap₂, arith}
+use Rattle.std.proofs.Common.{◌≡◌, ℕ, ◌≤◌, Bool, true, false, List, [], ◌∷◌, refl, arith}
 use Rattle.master.specs.declared.symbol.Symbol.{Symbol}
 use Rattle.wire.specs.declared.wire.Levels.{Levels}
 use Rattle.wire.specs.declared.wire.Signal.{Signal}
@@ -7,7 +7,7 @@ use Rattle.master.specs.Masters.{MasterModel, VerdictModel, quiet, master_step}
 use Rattle.master.specs.Scripts.{Script}
 use Rattle.law.proofs.Sides.{Side}
 use Rattle.law.proofs.Law.Machine.{any_scl, any_sda, masters_step, verdicts, Bus, levels, after, tick, said, tick_verdicts}
-use Rattle.law.proofs.Law.Phases.{rank, Cell, out, live, off, look, looks, turns, notes, some, Every, Times, Timed, least}
+use Rattle.law.proofs.Law.Phases.{rank, Cell, live, off, look, looks, turns, notes, some, Every, Times, Timed, least}
 
 pub rank_top : (x : Symbol) → rank x ≤ 4
 rank_top x = grind arith
@@ -18,69 +18,57 @@ module _ (W : Script) where
       (each : (m : MasterModel W) (p : W.Cursor) → Times W m → Q (W.symbol p) → (master_step W (f m p) s).0 ≡ look W g (t m p))
       (cs : List (Cell W)) → Timed W cs → Every W Q cs → masters_step W (looks W f cs) s ≡ looks W g (turns W t cs)
   step_all f g t s Q still each [] h q = refl
-  step_all f g t s Q still each (out m ∷ cs) h q = ap₂ ◌∷◌ (still m) (step_all f g t s Q still each cs h.1 q)
-  step_all f g t s Q still each (live m p ∷ cs) h q = ap₂ ◌∷◌ (each m p h.0 q.0) (step_all f g t s Q still each cs h.1 q.1)
+  step_all f g t s Q still each (c ∷ cs) h q = grind (arith, step_all f g t s Q still each cs)
 
   pub verdicts_all : (f : MasterModel W → W.Cursor → MasterModel W) (k : Symbol → W.Cursor → VerdictModel W) (s : Signal) (Q : Symbol → Type 0)
       (still : (m : MasterModel W) → (master_step W (off W m) s).1 ≡ quiet)
       (each : (m : MasterModel W) (p : W.Cursor) → Q (W.symbol p) → (master_step W (f m p) s).1 ≡ k (W.symbol p) p)
       (cs : List (Cell W)) → Every W Q cs → verdicts W (looks W f cs) s ≡ notes W k cs
   verdicts_all f k s Q still each [] q = refl
-  verdicts_all f k s Q still each (out m ∷ cs) q = ap₂ ◌∷◌ (still m) (verdicts_all f k s Q still each cs q)
-  verdicts_all f k s Q still each (live m p ∷ cs) q = ap₂ ◌∷◌ (each m p q.0) (verdicts_all f k s Q still each cs q.1)
+  verdicts_all f k s Q still each (c ∷ cs) q = grind (arith, verdicts_all f k s Q still each cs)
 
   pub turns_live : (cs : List (Cell W)) → turns W live cs ≡ cs
   turns_live [] = refl
-  turns_live (out m ∷ cs) = ap (λ l. out m ∷ l) (turns_live cs)
-  turns_live (live m p ∷ cs) = ap (λ l. live m p ∷ l) (turns_live cs)
+  turns_live (c ∷ cs) = grind (arith, turns_live cs)
 
   pub sda_all : (f : MasterModel W → W.Cursor → MasterModel W) (t : Symbol → Bool) (each : (m : MasterModel W) (p : W.Cursor) → (f m p).pulls.sda ≡ t (W.symbol p))
       (cs : List (Cell W)) → any_sda W (looks W f cs) ≡ some W t cs
   sda_all f t each [] = refl
-  sda_all f t each (out m ∷ cs) = sda_all f t each cs
-  sda_all f t each (live m p ∷ cs) = ap₂ ◌||◌ (each m p) (sda_all f t each cs)
+  sda_all f t each (c ∷ cs) = grind (arith, sda_all f t each cs)
 
   pub scl_none : (f : MasterModel W → W.Cursor → MasterModel W) (each : (m : MasterModel W) (p : W.Cursor) → (f m p).pulls.scl ≡ false)
       (cs : List (Cell W)) → any_scl W (looks W f cs) ≡ false
   scl_none f each [] = refl
-  scl_none f each (out m ∷ cs) = scl_none f each cs
-  scl_none f each (live m p ∷ cs) = ap₂ ◌||◌ (each m p) (scl_none f each cs)
+  scl_none f each (c ∷ cs) = grind (arith, scl_none f each cs)
 
   pub all_of : (cs : List (Cell W)) → Every W (λ x. Unit {0}) cs
   all_of [] = tt
-  all_of (out m ∷ cs) = all_of cs
-  all_of (live m p ∷ cs) = (tt, all_of cs)
+  all_of (c ∷ cs) = grind (arith, all_of cs)
 
   pub every : (Q R : Symbol → Type 0) → ((x : Symbol) → Q x → R x) → (cs : List (Cell W)) → Every W Q cs → Every W R cs
   every Q R f [] q = tt
-  every Q R f (out m ∷ cs) q = every Q R f cs q
-  every Q R f (live m p ∷ cs) q = (f (W.symbol p) q.0, every Q R f cs q.1)
+  every Q R f (c ∷ cs) q = grind (arith, every Q R f cs)
 
   pub every_two : (Q R : Symbol → Type 0) → (cs : List (Cell W)) → Every W Q cs → Every W R cs → Every W (λ x. Q x × R x) cs
   every_two Q R [] q r = tt
-  every_two Q R (out m ∷ cs) q r = every_two Q R cs q r
-  every_two Q R (live m p ∷ cs) q r = ((q.0, r.0), every_two Q R cs q.1 r.1)
+  every_two Q R (c ∷ cs) q r = grind (arith, every_two Q R cs)
 
   pub some_false : (t : Symbol → Bool) (cs : List (Cell W)) → Every W (λ x. t x ≡ false) cs → some W t cs ≡ false
   some_false t [] q = refl
-  some_false t (out m ∷ cs) q = some_false t cs q
-  some_false t (live m p ∷ cs) q = ap₂ ◌||◌ q.0 (some_false t cs q.1)
+  some_false t (c ∷ cs) q = grind (arith, some_false t cs)
 
   -- the least rank is below each, and somebody shows it
   pub least_below : (n : ℕ) (cs : List (Cell W)) → n ≤ least W cs → Every W (λ x. n ≤ rank x) cs
   least_below n [] h = tt
-  least_below n (out m ∷ cs) h = least_below n cs h
-  least_below n (live m p ∷ cs) h = (omega arith, least_below n cs (omega arith))
+  least_below n (c ∷ cs) h = grind (arith, least_below n cs)
 
   pub least_some : (t : Symbol → Bool) (n : ℕ) (each : (x : Symbol) → rank x ≡ n → t x ≡ true) (cs : List (Cell W)) → least W cs ≡ n → n ≤ 4 → some W t cs ≡ true
   least_some t n each [] h k = absurd (omega arith)
-  least_some t n each (out m ∷ cs) h k = least_some t n each cs h k
-  least_some t n each (live m p ∷ cs) h k = grind (arith, each, least_some t n each cs)
+  least_some t n each (c ∷ cs) h k = grind (arith, least_some t n each cs)
 
   pub least_above : (n : ℕ) (cs : List (Cell W)) → n ≤ 5 → Every W (λ x. n ≤ rank x) cs → n ≤ least W cs
   least_above n [] h q = h
-  least_above n (out m ∷ cs) h q = least_above n cs h q
-  least_above n (live m p ∷ cs) h q = let a = least_above n cs h q.1 in let b = q.0 in omega arith
+  least_above n (c ∷ cs) h q = grind (arith, least_above n cs)
 
 module _ (W : Script) (D : Side) where
   -- a tick, by the levels that it finds

@@ -35,8 +35,7 @@ module _ (W : Script) where
 
   rising : (cs : List (Cell W)) (b : Bool) → masters_step W (looks W (released W) cs) (shown (Rise b) None false) ≡ looks W (fresh W b) cs
   rising [] b = refl
-  rising (out m ∷ cs) b = ap (λ l. off W m ∷ l) (rising cs b)
-  rising (live m p ∷ cs) b = ap (λ l. fresh W b m p ∷ l) (rising cs b)
+  rising (c ∷ cs) b = grind (arith, rising cs)
 
   -- nobody pulls for 255 ticks
   pub low_ends : (cs : List (Cell W)) (e : ℕ) → Timed W cs → 255 ≤ e → any_scl W (looks W (lowered W e) cs) ≡ false

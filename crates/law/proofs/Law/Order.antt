@@ -17,9 +17,6 @@ top_listens x h = grind arith
 pub lower_left : (x y : Symbol) → rank (lower x y) ≤ rank x
 lower_left x y = grind (arith, nat_tests)
 
-pub lower_right : (x y : Symbol) → rank (lower x y) ≤ rank y
-lower_right x y = grind (arith, nat_tests)
-
 pub lower_either : (x y : Symbol) → (lower x y ≡ x) ⊎ (lower x y ≡ y)
 lower_either x y = grind arith
 
@@ -29,7 +26,7 @@ module _ (W : Script) where
   lead_least (None ∷ l) zero p e = cc
   lead_least (None ∷ l) (suc i) p e = lead_least l i p e
   lead_least (Some q ∷ l) zero p e = let z : q ≡ p = cc in rw (← z) (lower_left (W.symbol q) (lead W l))
-  lead_least (Some q ∷ l) (suc i) p e = omega (arith, lower_right (W.symbol q) (lead W l), lead_least l i p e)
+  lead_least (Some q ∷ l) (suc i) p e = grind (arith, lead_least l i)
 
   -- somebody shows the lead, unless it is the last symbol of all
   abbrev pub Shown : List (Option W.Cursor) → Type 0

@@ -9,18 +9,12 @@ use Rattle.master.specs.Scripts.{Script}
 use Rattle.master.specs.Symbols.{pulls_sda}
 use Rattle.law.proofs.Sides.{Side, ends, letter, heard, after}
 use Rattle.law.proofs.Law.Phases.{rank, Cell, out, live, turn, cursor, cursors, some, alive, Every, least, stay_if, stay, advance, carries, Shape}
-use Rattle.law.proofs.Law.Race.{at, lower, lead, keep_all, Joint, slot, slots, opened, Quiet, Laws}
+use Rattle.law.proofs.Law.Race.{at, lead, keep_all, Joint, slot, slots, opened, Quiet, Laws}
 use Rattle.law.proofs.Law.Uses.{bit_letter}
 use Rattle.law.proofs.Law.Lists.{rank_top}
 use Rattle.law.proofs.Law.Stays.{alive_least}
 use Rattle.law.proofs.Law.Order.{rank_inj, top_listens, lead_least, lead_shown}
 use Rattle.law.proofs.Law.Fates.{moves, not_end, Fair, fair_next, kept_at}
-
-pulls_lower : (x y : Symbol) → pulls_sda (lower x y) ≡ (pulls_sda x || pulls_sda y)
-pulls_lower x y = grind arith
-
-rank_lower : (x y : Symbol) → rank (lower x y) ≡ min (rank x) (rank y)
-rank_lower x y = grind (arith, nat_tests)
 
 eqb_swap : (a b : ℕ) → eqb a b ≡ eqb b a
 eqb_swap a b = grind (arith, nat_tests)
@@ -56,13 +50,11 @@ rank_ends x h = ap ends (rank_inj x Stop h)
 module _ (W : Script) where
   some_lead : (cs : List (Cell W)) → some W pulls_sda cs ≡ pulls_sda (lead W (cursors W cs))
   some_lead [] = refl
-  some_lead (out m ∷ cs) = some_lead cs
-  some_lead (live m p ∷ cs) = ap (λ b. pulls_sda (W.symbol p) || b) (some_lead cs) ∙ sym (pulls_lower (W.symbol p) (lead W (cursors W cs)))
+  some_lead (c ∷ cs) = grind (arith, some_lead cs)
 
   least_lead : (cs : List (Cell W)) → min 4 (least W cs) ≡ rank (lead W (cursors W cs))
   least_lead [] = refl
-  least_lead (out m ∷ cs) = least_lead cs
-  least_lead (live m p ∷ cs) = omega (arith, least_lead cs, rank_lower (W.symbol p) (lead W (cursors W cs)), rank_top (W.symbol p))
+  least_lead (c ∷ cs) = grind (arith, least_lead cs)
 
   pub leads : (cs : List (Cell W)) → alive W cs ≡ true → rank (lead W (cursors W cs)) ≡ least W cs
   leads cs v = omega (arith, least_lead cs, alive_least W cs v)

@@ -1,41 +1,29 @@
 -- A free bus: the armed masters claim it, and the turn starts.
-use Rattle.std.proofs.Common.{◌≡◌, ℕ, true, false, List, [], ◌∷◌, None, refl, ap, ap₂, arith}
-use Rattle.std.proofs.lemmas.Bool.Decides.{nat_tests}
+use Rattle.std.proofs.Common.{◌≡◌, ℕ, true, false, List, [], ◌∷◌, None, refl, ap, arith}
 use Rattle.wire.specs.declared.wire.Event.TheVariants.{Start, SteadyHigh}
-use Rattle.master.specs.Masters.{ArmingModel, MasterModel, contends, master_step}
 use Rattle.master.specs.Scripts.{Script}
 use Rattle.law.proofs.Sides.{Side}
 use Rattle.law.proofs.Law.Machine.{any_sda, masters_step, levels, tick}
-use Rattle.law.proofs.Law.Phases.{lines, shown, Cell, out, live, off, look, looks, idling, claimed, opened, alive, Times, Timed, claim, claim_all, bus, free_bus, claimed_bus, opened_bus}
+use Rattle.law.proofs.Law.Phases.{lines, shown, Cell, looks, idling, claimed, opened, alive, Timed, claim_all, bus, free_bus, claimed_bus, opened_bus}
 use Rattle.law.proofs.Law.Lists.{sda_all, scl_none, via}
 
 module _ (W : Script) where
-  claim_one : (m : MasterModel W) (a : ArmingModel W) → (contends W (off W m) a).0 ≡ look W (claimed W) (claim W m a)
-  claim_one m a = grind arith
-
   claiming : (cs : List (Cell W)) → masters_step W (looks W (idling W) cs) (shown SteadyHigh None true) ≡ looks W (claimed W) (claim_all W cs)
   claiming [] = refl
-  claiming (out m ∷ cs) = ap₂ ◌∷◌ (claim_one m m.arming) (claiming cs)
-  claiming (live m p ∷ cs) = ap₂ ◌∷◌ (claim_one m m.arming) (claiming cs)
+  claiming (c ∷ cs) = grind (arith, claiming cs)
 
   -- where nobody claims, nothing has changed
   unclaimed : (cs : List (Cell W)) → alive W cs ≡ false → looks W (claimed W) cs ≡ looks W (idling W) cs
   unclaimed [] h = refl
-  unclaimed (out m ∷ cs) h = ap (λ l. off W m ∷ l) (unclaimed cs h)
-  unclaimed (live m p ∷ cs) h = cc
-
-  start_one : (m : MasterModel W) (p : W.Cursor) → Times W m → (master_step W (claimed W m p) (shown Start None false)).0 ≡ opened W 0 m p
-  start_one m p t = grind (arith, nat_tests)
+  unclaimed (c ∷ cs) h = grind (arith, unclaimed cs)
 
   starting : (cs : List (Cell W)) → Timed W cs → masters_step W (looks W (claimed W) cs) (shown Start None false) ≡ looks W (opened W 0) cs
   starting [] t = refl
-  starting (out m ∷ cs) t = ap (λ l. off W m ∷ l) (starting cs t.1)
-  starting (live m p ∷ cs) t = ap₂ ◌∷◌ (start_one m p t.0) (starting cs t.1)
+  starting (c ∷ cs) t = grind (arith, starting cs)
 
   idle_sda : (cs : List (Cell W)) → any_sda W (looks W (idling W) cs) ≡ false
   idle_sda [] = refl
-  idle_sda (out m ∷ cs) = idle_sda cs
-  idle_sda (live m p ∷ cs) = idle_sda cs
+  idle_sda (c ∷ cs) = grind (arith, idle_sda cs)
 
 module _ (W : Script) (D : Side) where
   pub free_claims : (cs : List (Cell W)) (s : D.S) (h : ℕ) → D.pulls s ≡ false → tick W D (free_bus W D cs s) h ≡ claimed_bus W D (claim_all W cs) s

@@ -11,7 +11,7 @@ use Rattle.master.specs.Scripts.{Script}
 use Rattle.wire.specs.Wires.{event, counted}
 use Rattle.law.proofs.Sides.{Side, heard}
 use Rattle.law.proofs.Law.Machine.{any_scl, verdicts, asked, taken, Bus, tick, tick_event, said, tick_verdicts}
-use Rattle.law.proofs.Law.Phases.{lines, shown, rank, holds, early_lost, late_lost, Cell, out, live, looks, notes, no_verdict, early, late, cursors, opened, settled, some, Every, Timed, least, stay, advance, finished, claim_all, free_bus, claimed_bus, opened_bus, low_bus, fresh_bus, settled_bus, carries, held, Shape}
+use Rattle.law.proofs.Law.Phases.{lines, shown, rank, holds, early_lost, late_lost, Cell, looks, notes, no_verdict, early, late, cursors, opened, settled, some, Every, Timed, least, stay, advance, finished, claim_all, free_bus, claimed_bus, opened_bus, low_bus, fresh_bus, settled_bus, carries, held, Shape}
 use Rattle.law.proofs.Law.Race.{at, lead, Quiet, Laws}
 use Rattle.law.proofs.Law.Uses.{Tasks, Hosts, count, any, nobody, disarm, is_lost, telling, tellings, begins, leader, wins, outcomes, leader_side, book, feed, book_tells, Spell, spell, bit_letter, fallen, Watch, watch, falses, marks_too, turned, noted, sees, Loses, Stopped, Spelled, Plays}
 use Rattle.law.proofs.Law.Lists.{rank_top, every, least_below, via_verdicts}
@@ -27,10 +27,6 @@ use Rattle.law.proofs.Law.Runs.{Run, spelled, spells, letter_bit, letter_again, 
 use Rattle.law.proofs.Law.Contests.{task_at, leader_in, loses_at, wins_least, least_wins, stop_side, stop_spells}
 use Rattle.law.proofs.Law.Stands.{Ready, Crew, Fit, Stands, idle, claims, begun, low, rose, high}
 use Rattle.law.proofs.Law.Stops.{ending, tells_end, armeds_finished, counts_end, somebody_told, disarmed, tells_unmarked, outcome_at, told_at_stop}
-
-or_false : (b : Bool) → (b || false) ≡ b
-or_false true = refl
-or_false false = refl
 
 asked_to : (k : Option Bool) (h : ℕ) → h ≤ 255 → asked k h ≤ 255
 asked_to None h b = omega arith
@@ -83,8 +79,7 @@ module _ (W : Script) where
   marks_none : (v : List Bool) (cs : List (Cell W)) → marks_too W v (notes W (no_verdict W) cs) ≡ v
   marks_none [] cs = refl
   marks_none (a ∷ v) [] = refl
-  marks_none (a ∷ v) (out m ∷ cs) = ap₂ ◌∷◌ (or_false a) (marks_none v cs)
-  marks_none (a ∷ v) (live m p ∷ cs) = ap₂ ◌∷◌ (or_false a) (marks_none v cs)
+  marks_none (a ∷ v) (c ∷ cs) = grind (arith, marks_none v cs)
 
   lost_if : (b : Bool) (k : VerdictModel W) → is_lost W k ≡ false → is_lost W (cond b lost k) ≡ b
   lost_if true k h = refl

@@ -2,12 +2,11 @@
 use Rattle.std.proofs.Common.{◌≡◌, ℕ, zero, suc, ◌+◌, ◌≤◌, min, Bool, true, false, cond, not, ◌&&◌, eqb, ◌⊎◌, List, [], ◌∷◌, get_or, is_some, Some, None, Option, sym, refl, ap, ◌∙◌, ap₂, arith}
 use Rattle.std.proofs.lemmas.Bool.{eqb-true, eq-eqb, ne_eqb}
 use Rattle.master.specs.declared.symbol.Symbol.{Symbol}
-use Rattle.master.specs.Masters.{MasterModel}
 use Rattle.master.specs.Scripts.{Script}
 use Rattle.law.proofs.Sides.{Side, heard}
-use Rattle.law.proofs.Law.Phases.{rank, early_lost, Cell, out, live, notes, late, cursors, Every, least, done_if, finished}
+use Rattle.law.proofs.Law.Phases.{rank, early_lost, Cell, out, live, notes, late, cursors, Every, least, finished}
 use Rattle.law.proofs.Law.Race.{at, lead, keep, Laws}
-use Rattle.law.proofs.Law.Uses.{Tasks, count, disarm_one, disarm, task_of, telling, tellings, begins, task_outcome, leader, wins, outcomes}
+use Rattle.law.proofs.Law.Uses.{Tasks, count, disarm_one, disarm, tellings, begins, task_outcome, leader, wins, outcomes}
 use Rattle.law.proofs.Law.Order.{rank_inj}
 use Rattle.law.proofs.Law.Cells.{cell_armeds, Holding, Within, marked}
 use Rattle.law.proofs.Law.Runs.{Run}
@@ -16,9 +15,6 @@ use Rattle.law.proofs.Law.Contests.{stop_wins, stop_names}
 count_one : {A B : Type 0} (v : Bool) (a : Option A) (o : B) (l os : List (Option A)) (ts : List (Option B)) → is_some a ≡ true → count os + count ts ≡ count l →
     count (disarm_one a (cond v (Some o) None) ∷ os) + count (cond v (Some o) None ∷ ts) ≡ count (a ∷ l)
 count_one v a o l os ts h k = grind arith
-
-count_out : {A B : Type 0} (a : Option A) (l os : List (Option A)) (ts : List (Option B)) → count os + count ts ≡ count l → count (a ∷ os) + count ts ≡ count (a ∷ l)
-count_out a l os ts h = grind arith
 
 told_one : {B : Type 0} (v : Bool) (o : B) (ts : List (Option B)) → (v ≡ true) ⊎ (1 ≤ count ts) → 1 ≤ count (cond v (Some o) None ∷ ts)
 told_one v o ts h = grind arith
@@ -50,28 +46,17 @@ module _ (W : Script) where
   ending [] = []
   ending (o ∷ os) = names o ∷ ending os
 
-  tell_end : (p : W.Cursor) (x : Symbol) → telling W (late W 1 x p) ≡ cond (eqb (rank x) 1) (Some (W.outcome p)) None
-  tell_end p x = grind arith
-
   pub tells_end : (cs : List (Cell W)) → tellings W (notes W (late W 1) cs) ≡ ending (cursors W cs)
   tells_end [] = refl
-  tells_end (out m ∷ cs) = ap (λ l. None ∷ l) (tells_end cs)
-  tells_end (live m p ∷ cs) = ap₂ ◌∷◌ (tell_end p (W.symbol p)) (tells_end cs)
-
-  done_armed : (v : Bool) (m : MasterModel W) (o : W.Outcome) (cs : List (Cell W)) (l : Tasks W) → cell_armeds W cs ≡ l →
-      cell_armeds W (done_if W v m ∷ cs) ≡ disarm_one (task_of W m.arming) (cond v (Some o) None) ∷ l
-  done_armed v m o cs l h = grind arith
+  tells_end (c ∷ cs) = grind (arith, tells_end cs)
 
   pub armeds_finished : (cs : List (Cell W)) → cell_armeds W (finished W cs) ≡ disarm (cell_armeds W cs) (ending (cursors W cs))
   armeds_finished [] = refl
-  armeds_finished (out m ∷ cs) = ap (λ l. task_of W m.arming ∷ l) (armeds_finished cs)
-  armeds_finished (live m p ∷ cs) = done_armed (eqb (rank (W.symbol p)) 1) m (W.outcome p) (finished W cs) (disarm (cell_armeds W cs) (ending (cursors W cs))) (armeds_finished cs)
+  armeds_finished (c ∷ cs) = grind (arith, armeds_finished cs)
 
   pub counts_end : (cs : List (Cell W)) → Holding W cs → count (disarm (cell_armeds W cs) (ending (cursors W cs))) + count (ending (cursors W cs)) ≡ count (cell_armeds W cs)
   counts_end [] h = omega arith
-  counts_end (out m ∷ cs) h = count_out (task_of W m.arming) (cell_armeds W cs) (disarm (cell_armeds W cs) (ending (cursors W cs))) (ending (cursors W cs)) (counts_end cs h)
-  counts_end (live m p ∷ cs) h = count_one (eqb (rank (W.symbol p)) 1) (task_of W m.arming) (W.outcome p) (cell_armeds W cs) (disarm (cell_armeds W cs) (ending (cursors W cs)))
-      (ending (cursors W cs)) h.0 (counts_end cs h.1)
+  counts_end (c ∷ cs) h = grind (arith, counts_end cs)
 
   -- somebody is told
   pub somebody_told : (cs : List (Cell W)) → least W cs ≡ 1 → 1 ≤ count (ending (cursors W cs))
@@ -92,8 +77,7 @@ module _ (W : Script) where
   tells_unmarked (o ∷ l) [] h e i q a = absurd h
   tells_unmarked (o ∷ l) (out m ∷ cs) h e zero q a = let z : is_some o ≡ true = ap is_some a in ap (λ v. not (v && true)) (sym z)
   tells_unmarked (o ∷ l) (live m p ∷ cs) h e zero q a = told_unmarked o p (W.symbol p) h.0 e.0
-  tells_unmarked (o ∷ l) (out m ∷ cs) h e (suc i) q a = tells_unmarked l cs h e i q a
-  tells_unmarked (o ∷ l) (live m p ∷ cs) h e (suc i) q a = tells_unmarked l cs h.1 e.1 i q a
+  tells_unmarked (o ∷ l) (c ∷ cs) h e (suc i) q a = grind (arith, tells_unmarked l cs)
 
 module _ (W : Script) (D : Side) (left : W.Cursor → ℕ) where
   -- one by one
@@ -112,8 +96,7 @@ module _ (W : Script) (D : Side) (left : W.Cursor → ℕ) where
   outcome_at q s [] i p e = cc
   outcome_at q s (None ∷ l) zero p e = cc
   outcome_at q s (Some r ∷ l) zero p e = let z : r ≡ p = cc in told_is (wins W D left r q s) (task_outcome W D left r s) ∙ ap (λ x. wins W D left x q s) z
-  outcome_at q s (None ∷ l) (suc i) p e = outcome_at q s l i p e
-  outcome_at q s (Some r ∷ l) (suc i) p e = outcome_at q s l i p e
+  outcome_at q s (o ∷ l) (suc i) p e = grind (arith, outcome_at q s l)
 
 module _ (W : Script) (D : Side) (left : W.Cursor → ℕ) (Alike : W.Cursor → W.Cursor → Type 0) (laws : Laws W left Alike) where
   pub told_at_stop : (l : Tasks W) (s0 : D.S) (k r : ℕ) (cs : List (Cell W)) (s : D.S) → Run W D left Alike (begins W l) s0 k r (cursors W cs) s → rank (lead W (cursors W cs)) ≡ 1 → Within W l cs →

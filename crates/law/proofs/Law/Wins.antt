@@ -9,7 +9,7 @@ use Rattle.law.proofs.Law.Phases.{rank}
 use Rattle.law.proofs.Law.Race.{at, common, lexb, First, lead, slots, opened, alone, alone_side, Laws}
 use Rattle.law.proofs.Law.Lists.{rank_top}
 use Rattle.law.proofs.Law.Order.{rank_inj, lead_least, lead_shown, Shown, at_keep, kept}
-use Rattle.law.proofs.Law.Fates.{not_end, common_same, text, Fate, next_live, next_side, slots_next, keeps, Fair, fair_next, fate}
+use Rattle.law.proofs.Law.Fates.{common_same, text, Fate, next_live, next_side, slots_next, keeps, Fair, fair_next, fate}
 
 pub lexb_anti : (t u : List ℕ) → lexb t u ≡ true → lexb u t ≡ true → t ≡ u
 lexb_anti [] [] h k = refl
@@ -123,13 +123,7 @@ module _ (W : Script) (D : Side) (left : W.Cursor → ℕ) (Alike : W.Cursor →
   pub fuel : (n m : ℕ) (p : W.Cursor) (s : D.S) → left p ≤ n → left p ≤ m → (string W D n p s ≡ string W D m p s) × (last W D n p s ≡ last W D m p s)
   fuel zero m p s h k = absurd (omega (arith, laws.some_left p))
   fuel (suc n) zero p s h k = absurd (omega (arith, laws.some_left p))
-  fuel (suc n) (suc m) p s h k = elim (cases_Bool (ends (W.symbol p))) [
-    | inl d ↦ rw d (refl, refl)
-    | inr d ↦
-        let x = laws.fewer p (heard D (W.symbol p) s) (not_end (W.symbol p) d) in
-        let y = fuel n m (W.next p (heard D (W.symbol p) s)) (after D (W.symbol p) s) (omega arith) (omega arith) in
-        rw d (ap (λ z. letter D (W.symbol p) s ∷ z) y.0, y.1)
-  ]
+  fuel (suc n) (suc m) p s h k = grind (arith, fuel n m)
 
   abbrev pub most : List (Option W.Cursor) → ℕ
   most [] = 0

@@ -1,12 +1,11 @@
 -- The making of a bus, and the law over every use from it.
-use Rattle.std.proofs.Common.{◌≡◌, ℕ, max, false, List, [], ◌∷◌, None, sym, refl, ap, ◌∙◌, subst}
+use Rattle.std.proofs.Common.{◌≡◌, ℕ, max, false, List, [], ◌∷◌, None, sym, refl, ap, ◌∙◌, subst, arith}
 use Rattle.device.specs.Behaviours.{Behaviour}
 use Rattle.host.specs.Behaviours.{HostBehaviour}
 use Rattle.law.specs.Banks.{Bank, each, listed}
 use Rattle.master.specs.Serving.{Served, served_new}
 use Rattle.port.specs.Ports.{port_new, PortModel}
 use Rattle.law.specs.Laws.{Clocked, used, new_entry, placed_at, beginning, EveryUse}
-use Rattle.master.specs.Masters.{new_master}
 use Rattle.master.specs.Scripts.{transfers}
 use Rattle.law.proofs.Alone.Alike.{Alike}
 use Rattle.law.proofs.Alone.Idle.{Idle}
@@ -32,11 +31,11 @@ clocks_fit (h ∷ hs) ms c = (c.0, clocks_fit hs ms.1 c.1)
 
 new_masters : (hs : List HostBehaviour) (ms : Bank Served hs) → masters_of hs (each served_new hs ms) ≡ fresh_masters transfers (listed clock_of hs ms)
 new_masters [] ms = refl
-new_masters (h ∷ hs) ms = ap (λ l. new_master transfers ms.0.master.low ms.0.master.high ∷ l) (new_masters hs ms.1)
+new_masters (h ∷ hs) ms = grind (arith, new_masters hs)
 
 new_hosts : (hs : List HostBehaviour) (ms : Bank Served hs) → hosts_of hs (each served_new hs ms) ≡ hosts_of hs ms
 new_hosts [] ms = refl
-new_hosts (h ∷ hs) ms = ap (λ r. (ms.0.meaning, r)) (new_hosts hs ms.1)
+new_hosts (h ∷ hs) ms = grind (arith, new_hosts hs)
 
 no_holds : (ds : List Behaviour) (ps : Bank PortModel ds) → longest_hold ds (each port_new ds ps) ≡ 0
 no_holds [] ps = refl
@@ -45,11 +44,11 @@ no_holds (b ∷ ds) ps = ap (λ n. max 0 n) (no_holds ds ps.1)
 module _ (hs : List HostBehaviour) (ds : List Behaviour) where
   new_ports : (es : List Behaviour) (ps : Bank PortModel es) → each unheld es (each port_new es ps) ≡ idle_ports es (each (placed_at hs ds) es ps)
   new_ports [] ps = refl
-  new_ports (b ∷ es) ps = ap (λ r. (port_new b ps.0, r)) (new_ports es ps.1)
+  new_ports (b ∷ es) ps = grind (arith, new_ports es)
 
   new_meanings : (gs : List HostBehaviour) (ms : Bank Served gs) → meanings gs (each (new_entry hs ds) gs ms) ≡ hosts_of gs ms
   new_meanings [] ms = refl
-  new_meanings (h ∷ gs) ms = ap (λ r. (ms.0.meaning, r)) (new_meanings gs ms.1)
+  new_meanings (h ∷ gs) ms = grind (arith, new_meanings gs)
 
   new_tasks : (gs : List HostBehaviour) (ms : Bank Served gs) → tasks gs (each (new_entry hs ds) gs ms) ≡ armeds transfers (fresh_masters transfers (listed clock_of gs ms))
   new_tasks [] ms = refl

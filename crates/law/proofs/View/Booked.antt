@@ -1,5 +1,5 @@
 -- The turn book as the book of the law, and that both go the same way at every call and event.
-use Rattle.std.proofs.Common.{◌≡◌, ℕ, zero, suc, Bool, true, false, cond, ◌||◌, List, [], ◌∷◌, is_some, Some, None, Option, sym, refl, ap, ◌∙◌, ap₂, arith}
+use Rattle.std.proofs.Common.{◌≡◌, ℕ, zero, suc, Bool, true, false, cond, List, [], ◌∷◌, is_some, Some, None, Option, sym, refl, ap, ◌∙◌, ap₂, arith}
 use Rattle.std.specs.Option.{option_map}
 use Rattle.transfer.specs.declared.draft.Transfer.{Transfer}
 use Rattle.transfer.specs.Drafts.{TransferModel, transfer_model}
@@ -18,7 +18,7 @@ use Rattle.law.proofs.Alone.Sealed.{legal_transfer}
 use Rattle.law.proofs.Alone.SlotsLeft.{slots_left}
 use Rattle.law.proofs.Law.Uses.{any, answer, answer_if, armed_if, arm_book, nobody, disarm, disarm_one, Book as LawBook, book, feed_arm, feed, stop_tells, book_tells as law_tells}
 use Rattle.law.proofs.View.Carries.{LegalIf, AllLegal, carry_all, lead, told_are, devices_are}
-use Rattle.law.proofs.View.Hosting.{Meanings, wants_of, hears_one, hears_all, all_hosts}
+use Rattle.law.proofs.View.Hosting.{Meanings, wants_of, hears_all, all_hosts}
 
 abbrev pub meaning_of : (h : HostBehaviour) → Entry h → h.Meaning
 meaning_of h x = x.meaning
@@ -73,7 +73,7 @@ arm_meanings (h ∷ hs) es (suc n) = ap (λ r. (es.0.meaning, r)) (arm_meanings 
 pub arm_contenders : (hs : List HostBehaviour) (es : Bank Entry hs) (n : ℕ) → contenders hs (entry_arm_nth hs es n).1 ≡ contenders hs es
 arm_contenders [] es n = refl
 arm_contenders (h ∷ hs) es zero = ap (λ o. o ∷ contenders hs es.1) (arms_contends h es.0 es.0.standing (h.want es.0.meaning))
-arm_contenders (h ∷ hs) es (suc n) = ap (λ l. contends_with h es.0 ∷ l) (arm_contenders hs es.1 n)
+arm_contenders (h ∷ hs) es (suc n) = grind (arith, arm_contenders hs es.1 n)
 
 answers_one : (h : HostBehaviour) (x : Entry h) (s : Standing) (w : Option Transfer) → WantsIf s w → (entry_arms h x s w).0 ≡ answer_if (wanted_if h (is_armed s) w) (option_map transfer_model w)
 answers_one h x s w k = grind arith
@@ -95,41 +95,35 @@ arm_kept (h ∷ hs) es (suc n) k = (k.0, arm_kept hs es.1 n k.1)
 -- a turn opens
 pub any_armed : (hs : List HostBehaviour) (es : Bank Entry hs) → Kept hs es → any (tasks hs es) ≡ any_true (listed standing_of hs es)
 any_armed [] es k = refl
-any_armed (h ∷ hs) es k = ap₂ ◌||◌ (some_if h es.0.standing (h.want es.0.meaning) k.0) (any_armed hs es.1 k.1) where
-  some_if : (g : HostBehaviour) (s : Standing) (w : Option Transfer) → WantsIf s w → is_some (wanted_if g (is_armed s) w) ≡ is_armed s
-  some_if g s w h = grind arith
+any_armed (h ∷ hs) es k = grind (arith, any_armed hs es.1 k.1)
 
 enter_tasks : (hs : List HostBehaviour) (es : Bank Entry hs) → tasks hs (each enters hs es) ≡ tasks hs es
 enter_tasks [] es = refl
-enter_tasks (h ∷ hs) es = ap (λ l. task_of h es.0 ∷ l) (enter_tasks hs es.1)
+enter_tasks (h ∷ hs) es = grind (arith, enter_tasks hs)
 
 enter_contenders : (hs : List HostBehaviour) (es : Bank Entry hs) → contenders hs (each enters hs es) ≡ tasks hs es
 enter_contenders [] es = refl
-enter_contenders (h ∷ hs) es = ap (λ l. task_of h es.0 ∷ l) (enter_contenders hs es.1)
+enter_contenders (h ∷ hs) es = grind (arith, enter_contenders hs)
 
 enter_meanings : (hs : List HostBehaviour) (es : Bank Entry hs) → meanings hs (each enters hs es) ≡ meanings hs es
 enter_meanings [] es = refl
-enter_meanings (h ∷ hs) es = ap (λ r. (es.0.meaning, r)) (enter_meanings hs es.1)
+enter_meanings (h ∷ hs) es = grind (arith, enter_meanings hs)
 
 enter_kept : (hs : List HostBehaviour) (es : Bank Entry hs) → Kept hs es → Kept hs (each enters hs es)
 enter_kept [] es k = tt
 enter_kept (h ∷ hs) es k = (k.0, enter_kept hs es.1 k.1)
 
--- a turn closes
-leave_meaning : (h : HostBehaviour) (x : Entry h) (t : Option OutcomeModel) → (leaves h x t).meaning ≡ hears_one h x.meaning t
-leave_meaning h x t = grind arith
-
 leave_meanings : (hs : List HostBehaviour) (es : Bank Entry hs) (ts : List (Option OutcomeModel)) → meanings hs (leave_all hs es ts) ≡ hears_all hs (meanings hs es) ts
 leave_meanings [] es ts = refl
-leave_meanings (h ∷ hs) es [] = ap (λ r. (es.0.meaning, r)) (leave_meanings hs es.1 [])
-leave_meanings (h ∷ hs) es (t ∷ ts) = λ i. (leave_meaning h es.0 t i, leave_meanings hs es.1 ts i)
+leave_meanings (h ∷ hs) es [] = grind (arith, leave_meanings hs)
+leave_meanings (h ∷ hs) es (t ∷ ts) = grind (arith, leave_meanings hs es.1 ts)
 
 leave_task : (h : HostBehaviour) (x : Entry h) (t : Option OutcomeModel) → task_of h (leaves h x t) ≡ disarm_one (task_of h x) t
 leave_task h x t = grind arith
 
 leave_no_tasks : (hs : List HostBehaviour) (es : Bank Entry hs) → tasks hs (leave_all hs es []) ≡ tasks hs es
 leave_no_tasks [] es = refl
-leave_no_tasks (h ∷ hs) es = ap (λ l. task_of h es.0 ∷ l) (leave_no_tasks hs es.1)
+leave_no_tasks (h ∷ hs) es = grind (arith, leave_no_tasks hs)
 
 leave_tasks : (hs : List HostBehaviour) (es : Bank Entry hs) (ts : List (Option OutcomeModel)) → tasks hs (leave_all hs es ts) ≡ disarm (tasks hs es) ts
 leave_tasks [] es ts = refl
@@ -139,8 +133,7 @@ leave_tasks (h ∷ hs) es (t ∷ ts) = ap₂ ◌∷◌ (leave_task h es.0 t) (le
 leave_kept : (hs : List HostBehaviour) (es : Bank Entry hs) (ts : List (Option OutcomeModel)) → Kept hs es → Kept hs (leave_all hs es ts)
 leave_kept [] es ts k = tt
 leave_kept (h ∷ hs) es [] k = (k.0, leave_kept hs es.1 [] k.1)
-leave_kept (h ∷ hs) es (None ∷ ts) k = (k.0, leave_kept hs es.1 ts k.1)
-leave_kept (h ∷ hs) es (Some o ∷ ts) k = (tt, leave_kept hs es.1 ts k.1)
+leave_kept (h ∷ hs) es (o ∷ ts) k = grind (arith, leave_kept hs es.1 ts)
 
 legal_if : (h : HostBehaviour) (v : Bool) (w : Option Transfer) → LegalIf (wanted_if h v w)
 legal_if h true None = tt
@@ -154,7 +147,7 @@ contenders_legal (h ∷ hs) es = (legal_if h es.0.contends (h.want es.0.meaning)
 contests_are : (ds : List Behaviour) (d : Bank Placed ds) (hs : List HostBehaviour) (es : Bank Entry hs) →
     listed (λ h x. option_map (λ t. carried ds t d) (contends_with h x)) hs es ≡ carry_all ds d (contenders hs es)
 contests_are ds d [] es = refl
-contests_are ds d (h ∷ hs) es = ap (λ l. option_map (λ t. carried ds t d) (contends_with h es.0) ∷ l) (contests_are ds d hs es.1)
+contests_are ds d (h ∷ hs) es = grind (arith, contests_are ds d hs)
 
 nobody_is : (hs : List HostBehaviour) (es : Bank Entry hs) → listed {X = Option OutcomeModel} (λ h x. None) hs es ≡ nobody (tasks hs es)
 nobody_is [] es = refl

@@ -1,5 +1,5 @@
 -- Who leads by the letters of carried alone is who leads slot by slot.
-use Rattle.std.proofs.Common.{◌≡◌, ℕ, Bool, cond, eqb, ltb, List, [], ◌∷◌, map, Some, None, Option, sym, refl, ap, ◌∙◌, subst, ap₂, le_refl, arith}
+use Rattle.std.proofs.Common.{◌≡◌, ℕ, Bool, cond, eqb, List, [], ◌∷◌, map, Some, None, Option, sym, refl, ap, ◌∙◌, subst, ap₂, le_refl, arith}
 use Rattle.std.specs.Cmp.Derive.Mapped.{pointwise-map}
 use Rattle.std.specs.Option.{option_map}
 use Rattle.transfer.specs.Drafts.{TransferModel}
@@ -23,7 +23,7 @@ use Rattle.law.proofs.Law.Uses.{same, task_string, task_outcome, task_side, pick
 pub lexb_ranks : (ts us : List Letter) → lexb (map rank ts) (map rank us) ≡ first_or_same ts us
 lexb_ranks [] us = refl
 lexb_ranks (t ∷ ts) [] = refl
-lexb_ranks (t ∷ ts) (u ∷ us) = ap (λ v. cond (eqb (rank t) (rank u)) v (ltb (rank t) (rank u))) (lexb_ranks ts us)
+lexb_ranks (t ∷ ts) (u ∷ us) = grind (arith, lexb_ranks ts us)
 
 pub same_ranks : (ts us : List Letter) → same (map rank ts) (map rank us) ≡ same_string ts us
 same_ranks ts us = pointwise-map rank eqb ts us
@@ -64,13 +64,9 @@ module _ (ds : List Behaviour) (d : Bank Placed ds) where
   abbrev pub lead : List (Option TransferModel) → Option TransferModel
   lead l = leader transfers (ports_side ds) slots_left l side
 
-  pick_legal : (t : TransferModel) (o : Option TransferModel) → Legal t → LegalIf o → Legal (pick transfers (ports_side ds) slots_left t o side)
-  pick_legal t o h k = grind arith
-
   pub lead_legal : (l : List (Option TransferModel)) → AllLegal l → LegalIf (lead l)
   lead_legal [] k = tt
-  lead_legal (None ∷ l) k = lead_legal l k.1
-  lead_legal (Some t ∷ l) k = pick_legal t (lead l) k.0 (lead_legal l k.1)
+  lead_legal (o ∷ l) k = grind (arith, lead_legal l)
 
   carry_cond : (b : Bool) (t u : TransferModel) → carry (cond b t u) ≡ cond b (carry t) (carry u)
   carry_cond b t u = grind arith
@@ -93,7 +89,7 @@ module _ (ds : List Behaviour) (d : Bank Placed ds) where
   outcomes_are [] None k g = refl
   outcomes_are [] (Some u) k g = refl
   outcomes_are (None ∷ l) None k g = ap (λ r. None ∷ r) (outcomes_are l None k.1 g)
-  outcomes_are (None ∷ l) (Some u) k g = ap (λ r. None ∷ r) (outcomes_are l (Some u) k.1 g)
+  outcomes_are (None ∷ l) (Some u) k g = grind (arith, outcomes_are l)
   outcomes_are (Some t ∷ l) None k g = ap (λ r. None ∷ r) (outcomes_are l None k.1 g)
   outcomes_are (Some t ∷ l) (Some u) k g = ap₂ ◌∷◌ (told_one t u k.0 g) (outcomes_are l (Some u) k.1 g)
 

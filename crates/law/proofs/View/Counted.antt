@@ -1,26 +1,25 @@
 -- Who is armed, who pulls and who is marked, bank by list; and what a run counts.
 use Rattle.std.proofs.lemmas.List.Folds.{fold-map}
-use Rattle.std.proofs.Common.{◌≡◌, ℕ, zero, suc, ◌+◌, Bool, false, cond, ◌||◌, List, [], ◌∷◌, map, get_or, is_some, Option, refl, ap, ap₂, arith, ◌∙◌, sym}
-use Rattle.transfer.specs.declared.draft.Transfer.{Transfer}
+use Rattle.std.proofs.Common.{◌≡◌, ℕ, zero, suc, ◌+◌, Bool, false, cond, ◌||◌, List, [], ◌∷◌, map, get_or, is_some, Option, refl, ap, arith, ◌∙◌, sym}
 use Rattle.device.specs.Behaviours.{Behaviour}
 use Rattle.host.specs.Behaviours.{HostBehaviour}
 use Rattle.master.specs.declared.mark.Mark.TheVariants.{Quiet, Lost}
 use Rattle.wire.specs.declared.wire.Signal.{Signal}
 use Rattle.law.specs.Banks.{Bank, each, listed, any_true}
-use Rattle.law.specs.Books.{Standing, is_armed, Entry, standing_of, wanted_if}
+use Rattle.law.specs.Books.{Entry, standing_of}
 use Rattle.law.specs.Buses.{Holds, tick_at, told_at, is_at_rest}
-use Rattle.master.specs.Serving.{Served, is_armed as arming_armed, served_armed, served_mark, served_pulls, mark_of}
+use Rattle.master.specs.Serving.{Served, served_armed, served_mark, served_pulls}
 use Rattle.law.specs.Carrying.{Placed}
 use Rattle.law.specs.Laws.{how_many_true, Use, ticks_once, run_on, ticks_of_run, placed_at}
-use Rattle.master.specs.Masters.{ArmingModel, VerdictModel, quiet, lost, master_step}
+use Rattle.master.specs.Masters.{quiet, lost}
 use Rattle.port.specs.Ports.{PortModel}
 use Rattle.law.specs.Runs.{how_many, Running, goes_on}
 use Rattle.master.specs.Scripts.{transfers}
 use Rattle.wire.specs.Wires.{no_pulls}
 use Rattle.law.proofs.Alone.PortsSide.{unheld, idle_ports}
 use Rattle.law.proofs.Law.Machine.{verdicts}
-use Rattle.law.proofs.Law.Uses.{any, count, armeds, task_of, pulling}
-use Rattle.law.proofs.View.Booked.{tasks, WantsIf, Kept}
+use Rattle.law.proofs.Law.Uses.{any, count, armeds, pulling}
+use Rattle.law.proofs.View.Booked.{tasks, Kept}
 use Rattle.law.proofs.View.Seen.{masters_of}
 use Rattle.law.proofs.View.Watched.{how_many_is}
 
@@ -34,34 +33,22 @@ pub any_somes : {A : Type 0} (l : List (Option A)) → any l ≡ any_true (somes
 any_somes [] = refl
 any_somes (o ∷ l) = ap (λ v. is_some o || v) (any_somes l)
 
-armed_some : (a : ArmingModel transfers) → is_some (task_of transfers a) ≡ arming_armed a
-armed_some a = grind arith
-
 pub masters_armed : (hs : List HostBehaviour) (ms : Bank Served hs) → somes (armeds transfers (masters_of hs ms)) ≡ listed served_armed hs ms
 masters_armed [] ms = refl
-masters_armed (h ∷ hs) ms = ap₂ ◌∷◌ (armed_some ms.0.master.arming) (masters_armed hs ms.1)
-
-some_if : (h : HostBehaviour) (s : Standing) (w : Option Transfer) → WantsIf s w → is_some (wanted_if h (is_armed s) w) ≡ is_armed s
-some_if h s w k = grind arith
+masters_armed (h ∷ hs) ms = grind (arith, masters_armed hs ms.1)
 
 pub entries_armed : (hs : List HostBehaviour) (es : Bank Entry hs) → Kept hs es → somes (tasks hs es) ≡ listed standing_of hs es
 entries_armed [] es k = refl
-entries_armed (h ∷ hs) es k = ap₂ ◌∷◌ (some_if h es.0.standing (h.want es.0.meaning) k.0) (entries_armed hs es.1 k.1)
-
-no_pull : (a b : Bool) → (a || b) ≡ false → (a ≡ false) × (b ≡ false)
-no_pull a b h = grind arith
+entries_armed (h ∷ hs) es k = grind (arith, entries_armed hs es.1 k.1)
 
 pub pulls_none : (hs : List HostBehaviour) (ms : Bank Served hs) (i : ℕ) → pulling transfers (masters_of hs ms) i ≡ false → get_or (listed served_pulls hs ms) i no_pulls ≡ no_pulls
 pulls_none [] ms i e = refl
-pulls_none (h ∷ hs) ms zero e = let p = no_pull ms.0.master.pulls.scl ms.0.master.pulls.sda e in λ j. record { scl = p.0 j; sda = p.1 j }
+pulls_none (h ∷ hs) ms zero e = grind arith
 pulls_none (h ∷ hs) ms (suc i) e = pulls_none hs ms.1 i e
-
-lost_mark : (k : VerdictModel transfers) → mark_of k ≡ Lost → k ≡ lost
-lost_mark k h = grind arith
 
 pub lost_at : (hs : List HostBehaviour) (ms : Bank Served hs) (s : Signal) (i : ℕ) → get_or (listed (λ h. served_mark h s) hs ms) i Quiet ≡ Lost → get_or (verdicts transfers (masters_of hs ms) s) i quiet ≡ lost
 lost_at [] ms s i e = cc
-lost_at (h ∷ hs) ms s zero e = lost_mark (master_step transfers ms.0.master s).1 e
+lost_at (h ∷ hs) ms s zero e = grind arith
 lost_at (h ∷ hs) ms s (suc i) e = lost_at hs ms.1 s i e
 
 module _ (hs : List HostBehaviour) (ds : List Behaviour) where

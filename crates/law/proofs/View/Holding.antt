@@ -32,38 +32,23 @@ asked_hold SteadyLow o n = 0
 asked_hold SteadyHigh o n = 0
 asked_hold (Rise x) o n = 0
 
-lower_both : (m n : ℕ) → max (m - 1) (n - 1) ≡ max m n - 1
-lower_both m n = omega arith
-
 lowered : (ds : List Behaviour) (p : Bank PortModel ds) (o : Option Bool) (i : Bool) (a : Holds ds) →
     longest_hold ds (ports_step ds p (record { event = SteadyLow; bit = o; idle = i }) a) ≡ longest_hold ds p - 1
 lowered [] p o i a = refl
-lowered (b ∷ ds) p o i a = ap (λ n. max (p.0.hold - 1) n) (lowered ds p.1 o i a.1) ∙ lower_both p.0.hold (longest_hold ds p.1)
+lowered (b ∷ ds) p o i a = omega (arith, lowered ds p.1 o i a.1)
 
 -- an event that asks nothing leaves the holds
 still : (ds : List Behaviour) (p : Bank PortModel ds) (e : Event) (o : Option Bool) (i : Bool) (a : Holds ds) →
     (e ≡ SteadyLow → ⊥) → asked_hold e o 1 ≡ 0 → longest_hold ds (ports_step ds p (record { event = e; bit = o; idle = i }) a) ≡ longest_hold ds p
 still [] p e o i a n q = refl
-still (b ∷ ds) p Start o i a n q = ap (λ k. max p.0.hold k) (still ds p.1 Start o i a.1 n q)
-still (b ∷ ds) p Stop o i a n q = ap (λ k. max p.0.hold k) (still ds p.1 Stop o i a.1 n q)
-still (b ∷ ds) p Fall None i a n q = ap (λ k. max p.0.hold k) (still ds p.1 Fall None i a.1 n q)
-still (b ∷ ds) p Fall (Some x) i a n q = absurd (omega arith)
-still (b ∷ ds) p SteadyLow o i a n q = absurd (n refl)
-still (b ∷ ds) p SteadyHigh o i a n q = ap (λ k. max p.0.hold k) (still ds p.1 SteadyHigh o i a.1 n q)
-still (b ∷ ds) p (Rise x) o i a n q = ap (λ k. max p.0.hold k) (still ds p.1 (Rise x) o i a.1 n q)
+still (b ∷ ds) p e o i a n q = grind (arith, still ds p.1 e o i a.1 n q)
 
 -- the ports' hold goes as the side's, with what they are asked for; where SCL was high nobody held
 pub hold_follows : (ds : List Behaviour) (p : Bank PortModel ds) (e : Event) (o : Option Bool) (i : Bool) (a : Holds ds) →
     (e ≡ Fall → longest_hold ds p ≡ 0) →
     longest_hold ds (ports_step ds p (record { event = e; bit = o; idle = i }) a) ≡
     hold_after (longest_hold ds p) e o (asked_hold e o (longest_hold ds (ports_step ds p (record { event = e; bit = o; idle = i }) a)))
-hold_follows ds p Fall None i a h = still ds p Fall None i a (λ k. cc) refl ∙ h refl
-hold_follows ds p Fall (Some x) i a h = refl
-hold_follows ds p SteadyLow o i a h = lowered ds p o i a
-hold_follows ds p Start o i a h = still ds p Start o i a (λ k. cc) refl
-hold_follows ds p Stop o i a h = still ds p Stop o i a (λ k. cc) refl
-hold_follows ds p SteadyHigh o i a h = still ds p SteadyHigh o i a (λ k. cc) refl
-hold_follows ds p (Rise x) o i a h = still ds p (Rise x) o i a (λ k. cc) refl
+hold_follows ds p e o i a h = grind (arith, still ds p e o i a, lowered ds p o i a)
 
 module _ (b : Behaviour) where
   small_counts : (p : PortModel b) (m : Mode) (x : Bool) (h : ℕ) → p.hold ≤ 255 → h ≤ 255 → (counts b p m x h).hold ≤ 255

@@ -39,5 +39,5 @@ module _ (ds : List Behaviour) (d : Bank Placed ds) where
 
   pub carried_at : (l : List (Option TransferModel)) (i : ℕ) (t : TransferModel) → at l i ≡ Some t → get_or (carry_all ds d l) i None ≡ Some (carry ds d t)
   carried_at [] i t e = cc
-  carried_at (o ∷ l) zero t e = ap (option_map (carry ds d)) e
+  carried_at (o ∷ l) zero t e = cc
   carried_at (o ∷ l) (suc i) t e = carried_at l i t e

@@ -10,7 +10,7 @@ use Rattle.wire.specs.declared.wire.Signal.{Signal}
 use Rattle.law.specs.Banks.{Bank, each, listed}
 use Rattle.law.specs.Buses.{all_pulls, Holds, ports_step, BusModel, levels_at, tick_at}
 use Rattle.master.specs.Serving.{Served, served_step, served_pulls}
-use Rattle.master.specs.Masters.{MasterModel, master_step}
+use Rattle.master.specs.Masters.{MasterModel}
 use Rattle.port.specs.Ports.{PortModel, port_pulls}
 use Rattle.master.specs.Scripts.{transfers}
 use Rattle.wire.specs.Wires.{both, levels_of, moved, event, signal, wire_after}
@@ -26,11 +26,11 @@ masters_of hs ms = listed master_of hs ms
 
 pub pulls_of : (hs : List HostBehaviour) (ms : Bank Served hs) → all_pulls (listed served_pulls hs ms) ≡ masters_pull transfers (masters_of hs ms)
 pulls_of [] ms = refl
-pulls_of (h ∷ hs) ms = ap (λ p. both ms.0.master.pulls p) (pulls_of hs ms.1)
+pulls_of (h ∷ hs) ms = grind (arith, pulls_of hs)
 
 pub steps_of : (hs : List HostBehaviour) (ms : Bank Served hs) (s : Signal) → masters_of hs (each (λ h. served_step h s) hs ms) ≡ masters_step transfers (masters_of hs ms) s
 steps_of [] ms s = refl
-steps_of (h ∷ hs) ms s = ap (λ l. (master_step transfers ms.0.master s).0 ∷ l) (steps_of hs ms.1 s)
+steps_of (h ∷ hs) ms s = grind (arith, steps_of hs)
 
 module _ (hs : List HostBehaviour) (ds : List Behaviour) where
   abbrev pub seen : BusModel hs ds → Bus transfers (ports_side ds)

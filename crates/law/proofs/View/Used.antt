@@ -5,17 +5,16 @@ use Rattle.host.specs.Behaviours.{HostBehaviour}
 use Rattle.wire.specs.declared.wire.Signal.{Signal}
 use Rattle.law.specs.Banks.{Bank, each}
 use Rattle.law.specs.Buses.{arm_nth, Holds, BusModel, levels_at, told_at}
-use Rattle.master.specs.Serving.{Served, served_step, hears}
+use Rattle.master.specs.Serving.{Served, served_step}
 use Rattle.law.specs.Laws.{arms, Use, event_at, marks_of, watched, notes_lost, ticks_once, calls}
-use Rattle.master.specs.Masters.{VerdictModel, master_step}
 use Rattle.master.specs.Scripts.{transfers}
 use Rattle.wire.specs.Wires.{event, signal}
 use Rattle.law.proofs.Alone.PortsSide.{ports_side}
 use Rattle.law.proofs.Alone.SlotsLeft.{slots_left}
 use Rattle.law.proofs.Law.Machine.{Bus, verdicts, tick_event, tick_verdicts}
-use Rattle.law.proofs.Law.Uses.{Step, arms as step_arms, ticks as step_ticks, accepted, count, arm_masters, arm_answer, tellings, telling, tick_tells, noted, turned, Book as LawBook, Watch as LawWatch, Use as LawUse, feed, does, uses}
+use Rattle.law.proofs.Law.Uses.{Step, arms as step_arms, ticks as step_ticks, accepted, count, arm_masters, arm_answer, tellings, tick_tells, noted, turned, Book as LawBook, Watch as LawWatch, Use as LawUse, feed, does, uses}
 use Rattle.law.proofs.View.Booked.{booked, Sound, tasks, contenders, turn_if, armed_booked, armed_sound, fed_booked, fed_sound}
-use Rattle.law.proofs.View.Hosting.{Meanings, wants_of, hears_one, hears_all, all_hosts}
+use Rattle.law.proofs.View.Hosting.{Meanings, wants_of, hears_all, all_hosts}
 use Rattle.law.proofs.View.Seen.{masters_of, seen, LetGo, levels_seen, answer_at, tick_seen, still_let_go}
 use Rattle.law.proofs.View.Watched.{noted_as, watched_as, marked_as, told_as, how_many_is}
 
@@ -45,12 +44,9 @@ accepted_is : (r : Result (Unit {0}) ℕ) → cond (is_ok r) 1 0 ≡ accepted r
 accepted_is r = grind arith
 
 -- ticks
-hears_told : (h : HostBehaviour) (m : h.Meaning) (k : VerdictModel transfers) → hears h m k ≡ hears_one h m (telling transfers k)
-hears_told h m k = grind arith
-
 step_hosts : (hs : List HostBehaviour) (ms : Bank Served hs) (s : Signal) → hosts_of hs (each (λ h. served_step h s) hs ms) ≡ hears_all hs (hosts_of hs ms) (tellings transfers (verdicts transfers (masters_of hs ms) s))
 step_hosts [] ms s = refl
-step_hosts (h ∷ hs) ms s = λ i. (hears_told h ms.0.meaning (master_step transfers ms.0.master s).1 i, step_hosts hs ms.1 s i)
+step_hosts (h ∷ hs) ms s = grind (arith, step_hosts hs)
 
 module _ (hs : List HostBehaviour) (ds : List Behaviour) where
   abbrev pub law_use : Meanings hs → Bus transfers (ports_side ds) → LawBook transfers (ports_side ds) (all_hosts hs) → LawWatch → ℕ → ℕ → LawUse transfers (ports_side ds) (all_hosts hs)

@@ -1,6 +1,6 @@
 -- What the watcher notes, as the watcher of the law notes it.
 use Rattle.std.proofs.lemmas.List.Sums.{sum_by-cons}
-use Rattle.std.proofs.Common.{◌≡◌, ℕ, zero, suc, Bool, true, false, cond, ◌||◌, List, [], ◌∷◌, ◌++◌, map, Some, None, Option, sym, refl, ap, ◌∙◌, ap₂, arith, is_some}
+use Rattle.std.proofs.Common.{◌≡◌, ℕ, zero, suc, Bool, true, false, cond, List, [], ◌∷◌, ◌++◌, map, Some, None, Option, sym, refl, ap, ◌∙◌, arith, is_some}
 use Rattle.transfer.specs.Drafts.{TransferModel}
 use Rattle.device.specs.Behaviours.{Behaviour}
 use Rattle.host.specs.Behaviours.{HostBehaviour}
@@ -9,13 +9,13 @@ use Rattle.wire.specs.declared.wire.Event.TheVariants.{Rise, Fall, Start, Stop, 
 use Rattle.wire.specs.declared.wire.Signal.{Signal}
 use Rattle.law.specs.Banks.{Bank, each, listed, any_true}
 use Rattle.law.specs.Books.{Entry, enters, standing_of, Book, book_after}
-use Rattle.master.specs.Serving.{Served, served_mark, served_told, mark_of, outcome_told}
-use Rattle.law.specs.Laws.{Watch, watching, sees, starts_again, is_lost, marked_too, watched}
-use Rattle.master.specs.Masters.{VerdictModel, master_step}
+use Rattle.master.specs.Serving.{Served, served_mark, served_told, outcome_told}
+use Rattle.law.specs.Laws.{Watch, watching, sees, starts_again, marked_too, watched}
+use Rattle.master.specs.Masters.{VerdictModel}
 use Rattle.law.specs.Runs.{how_many}
 use Rattle.master.specs.Scripts.{transfers}
 use Rattle.law.specs.Strings.{Letter, stop, restart, rank, bit_letter}
-use Rattle.law.proofs.Law.Uses.{count, Watch as LawWatch, watch, spell, fallen, restarted, falses, turned, marks_too, is_lost as verdict_lost, telling, tellings}
+use Rattle.law.proofs.Law.Uses.{count, Watch as LawWatch, watch, spell, fallen, restarted, falses, turned, marks_too, telling, tellings}
 use Rattle.law.proofs.Law.Machine.{verdicts}
 use Rattle.law.proofs.View.Booked.{tasks, contenders, turn_if, Kept, any_armed, Sound}
 use Rattle.law.proofs.View.Seen.{masters_of}
@@ -80,22 +80,19 @@ module _ (hs : List HostBehaviour) (ds : List Behaviour) where
   watched_as w b e k = watched_parts w b b.turn e k.kept
 
 -- marks by verdicts
-mark_lost : (k : VerdictModel transfers) → is_lost (mark_of k) ≡ verdict_lost transfers k
-mark_lost k = grind arith
-
 pub marked_as : (hs : List HostBehaviour) (ms : Bank Served hs) (s : Signal) (vs : List Bool) →
     marked_too vs (listed (λ h. served_mark h s) hs ms) ≡ marks_too transfers vs (verdicts transfers (masters_of hs ms) s)
 marked_as [] ms s [] = refl
 marked_as [] ms s (v ∷ vs) = refl
 marked_as (h ∷ hs) ms s [] = refl
-marked_as (h ∷ hs) ms s (v ∷ vs) = ap₂ (λ a l. (v || a) ∷ l) (mark_lost (master_step transfers ms.0.master s).1) (marked_as hs ms.1 s vs)
+marked_as (h ∷ hs) ms s (v ∷ vs) = grind (arith, marked_as hs ms.1 s vs)
 
 told_one : (k : VerdictModel transfers) → outcome_told k ≡ telling transfers k
 told_one k = grind arith
 
 pub told_as : (hs : List HostBehaviour) (ms : Bank Served hs) (s : Signal) → listed (λ h. served_told h s) hs ms ≡ tellings transfers (verdicts transfers (masters_of hs ms) s)
 told_as [] ms s = refl
-told_as (h ∷ hs) ms s = ap₂ ◌∷◌ (told_one (master_step transfers ms.0.master s).1) (told_as hs ms.1 s)
+told_as (h ∷ hs) ms s = grind (arith, told_as hs)
 
 pub how_many_is : {A : Type 0} (l : List (Option A)) → how_many l ≡ count l
 how_many_is [] = refl
