@@ -5,7 +5,7 @@ use fault::Fault;
 use host::ListHost;
 use parts::{Clocks, PairBus, arm_all, list_of, pair_bus};
 use std::fmt::{self, Display};
-use text::outcome_text;
+use text::OutcomeText;
 use transfer::{Address, Transfer};
 
 const REGISTERS: u32 = 0x50;
@@ -64,8 +64,7 @@ fn joined_queues(rt: &HostRuntime) -> Result<(), Fault> {
     let ((reader, End), _queues) = bus.close();
     ran?;
     if let Some(outcome) = reader.into_host().last() {
-        let text = outcome_text(rt.alloc(), &outcome)?;
-        println!(rt; "joined queues: {text}")?;
+        println!(rt; "joined queues: {}", OutcomeText(&outcome))?;
     }
     Ok(())
 }

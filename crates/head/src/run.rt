@@ -3,7 +3,7 @@ use crate::setup::{HeadBus, head_bus};
 use exchange::{End, Masters, Ports};
 use fault::Fault;
 use printing::print_run;
-use text::{bytes_text, outcome_text};
+use text::{HexBytes, OutcomeText};
 
 const MASTERS: usize = 3;
 
@@ -21,13 +21,11 @@ fn print_end(rt: &HostRuntime, bus: HeadBus) -> Result<(), Fault> {
     ];
     for (number, last) in told.iter().enumerate() {
         if let Some(outcome) = last {
-            let text = outcome_text(rt.alloc(), outcome)?;
-            println!(rt; "master {number}: {text}")?;
+            println!(rt; "master {number}: {}", OutcomeText(outcome))?;
         }
     }
     let registers = registers.into_device().into_device();
-    let text = bytes_text(rt.alloc(), &registers.bytes())?;
-    println!(rt; "registers:{text}")?;
+    println!(rt; "registers:{}", HexBytes(&registers.bytes()))?;
     Ok(())
 }
 

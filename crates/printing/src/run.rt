@@ -27,7 +27,7 @@ pub fn print_run<M: Masters, P: Ports>(
         }
         let tick = bus.tick();
         arm_all(bus, masters);
-        rt.print(listing.step(&tick).text(rt.alloc())?)?;
+        rt.print(listing.step(&tick))?;
     }
     Ok(())
 }

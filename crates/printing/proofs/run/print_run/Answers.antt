@@ -19,17 +19,6 @@ loop-made-preserved g c =
     one_more hs ds c.args.masters c.loop-made._made (bus_model c.args.bus.now) (bus_model c.loop-made.bus) _ _ _ c.tick-tick.ensures.0
     c.loop-made.invariant c.tick-tick.ensures.1 c.arm_all-in-loop-made.ensures
 
-pub returns-in_err-text : goal.returns-in_err-text
-returns-in_err-text g c =
-    let hs = g.M.Masters.hosts in
-    let ds = g.P.Ports.devices in (
-      c.loop-made._made + 1,
-      omega arith,
-      one_more hs ds c.args.masters c.loop-made._made (bus_model c.args.bus.now) (bus_model c.loop-made.bus) _ _ _ c.tick-tick.ensures.0
-          c.loop-made.invariant c.tick-tick.ensures.1 c.arm_all-in-loop-made.ensures,
-      search rules,
-    )
-
 pub returns-in_err-print : goal.returns-in_err-print
 returns-in_err-print g c =
     let hs = g.M.Masters.hosts in
