@@ -1,3 +1,4 @@
+pub mod Tolds
 pub mod Sides
 pub mod Alone
 pub mod Law

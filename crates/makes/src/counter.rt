@@ -24,7 +24,7 @@ impl Device for Counter {
     ghost means = { counted };
 
     fn select(&mut self, direction: Direction) -> bool {
-        matches!(direction, Direction::Read)
+        direction == Direction::Read
     }
 
     fn put(&mut self, _byte: u8) -> bool {

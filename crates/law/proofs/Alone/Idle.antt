@@ -1,6 +1,6 @@
 -- The ports between turns: they pull nothing, and a transfer alone finds them so and leaves them so.
 use Rattle.std.proofs.Common.{◌≡◌, ℕ, ◌≤◌, false, List, sym, refl, ap, ◌∙◌, subst, le_refl}
-use Rattle.transfer.specs.Drafts.{TransferModel}
+use Rattle.transfer.specs.Drafts.{TransferModel, transfer_model}
 use Rattle.device.specs.Behaviours.{Behaviour}
 use Rattle.law.specs.Banks.{Bank}
 use Rattle.law.specs.Carrying.{Placed, carried}
@@ -12,7 +12,10 @@ use Rattle.law.proofs.Alone.Banks.{none_each}
 use Rattle.law.proofs.Alone.CarriedAlone.{carried_alone}
 use Rattle.law.specs.Legal.{Legal}
 use Rattle.law.proofs.Alone.PortsSide.{pulling, ports_side, idle_port, idle_ports}
-use Rattle.law.proofs.Alone.SlotsLeft.{slots_left}
+use Rattle.law.proofs.Alone.SlotsLeft.{slots_left, at_most_308}
+use Rattle.transfer.specs.declared.draft.Transfer.{Transfer}
+use Rattle.law.proofs.Alone.Sealed.{legal_transfer}
+use Rattle.law.proofs.Alone.Statements.{Agrees}
 
 module _ (ds : List Behaviour) where
   pub record Idle (s : Bank PortModel ds) : Type 0 where
@@ -32,3 +35,7 @@ module _ (ds : List Behaviour) where
     devices = (carried ds t h.devices).devices;
     ports_are = ap (λ u. last transfers (ports_side ds) n (opening_of t) ((ports_side ds).begin u)) h.ports_are ∙ (carried_alone ds t h.devices n k b).same_devices;
   }
+
+  -- for a transfer of the code 308 slots are enough
+  pub sealed_alone : (t : Transfer) (d : Bank Placed ds) → Agrees ds (transfer_model t) d 308
+  sealed_alone t d = let h = legal_transfer t in carried_alone ds (transfer_model t) d 308 h (at_most_308 (transfer_model t) h)

@@ -1,5 +1,5 @@
 -- All ports as the far side that a script is played against, and how it follows the ports at each event.
-use Rattle.std.proofs.Common.{◌≡◌, ℕ, Bool, List, [], ◌∷◌, Some, None, Option, refl, arith}
+use Rattle.std.proofs.Common.{◌≡◌, ℕ, Bool, List, [], ◌∷◌, Some, None, Option, refl, arith, ap}
 use Rattle.device.specs.Behaviours.{Behaviour}
 use Rattle.port.specs.declared.port.Mode.{Mode}
 use Rattle.port.specs.declared.port.Mode.TheVariants.{Out, Addressing}
@@ -8,7 +8,7 @@ use Rattle.wire.specs.declared.wire.Event.TheVariants.{Rise, Fall, Start, Stop, 
 use Rattle.wire.specs.declared.wire.Signal.{Signal}
 use Rattle.law.specs.Banks.{Bank, each, listed}
 use Rattle.law.specs.Buses.{all_pulls, Holds, ports_step}
-use Rattle.port.specs.Ports.{PortModel, mode_pulls, port_pulls, counts, settles, new_port}
+use Rattle.port.specs.Ports.{PortModel, mode_pulls, port_pulls, counts, settles, new_port, port_new}
 use Rattle.law.specs.Carrying.{Placed}
 use Rattle.wire.specs.Octets.{part}
 use Rattle.law.proofs.Sides.{Side}
@@ -74,3 +74,15 @@ side_follows ds s v a = follows ds s v.event v.bit v.idle a
 pub side_pulls : (ds : List Behaviour) (s : Bank PortModel ds) → (all_pulls (listed port_pulls ds s)).sda ≡ (ports_side ds).pulls (each unheld ds s)
 side_pulls [] s = refl
 side_pulls (b ∷ ds) s = grind (arith, side_pulls ds)
+
+pub unheld_settles : (b : Behaviour) (p : PortModel b) (m : Mode) → unheld b (settles b p m) ≡ settles b (unheld b p) m
+unheld_settles b p m = refl
+
+-- where a port is, and what its device means
+abbrev pub placed : (b : Behaviour) → PortModel b → Placed b
+placed b p = record { address = p.address; meaning = p.meaning }
+
+-- ports of a new bus are idle
+pub new_ports_idle : (ds : List Behaviour) (s : Bank PortModel ds) → each port_new ds s ≡ idle_ports ds (each placed ds s)
+new_ports_idle [] s = refl
+new_ports_idle (b ∷ ds) s = ap (λ r. (port_new b s.0, r)) (new_ports_idle ds s.1)
