@@ -37,7 +37,7 @@ fn with_ports<M: Masters + Drop>(work: Work, masters: M) -> Result<Option<u64>, 
     Ok(Some(count))
 }
 
-// None where there is no bus of this size.
+// None where there is no bus of this size. A match and no table, since each size of a bank is a type of its own.
 pub fn measure(work: Work) -> Result<Option<u64>, Refusal>
     ensures { IfOk result (λ count. is_some count ≡ (is_masters work.masters && is_ports work.ports)) }
 {
