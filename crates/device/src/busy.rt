@@ -5,7 +5,7 @@ ghost use Rattle.device.specs.BusyLayers.{busied, busy_over};
 use crate::device::Device;
 use transfer::Direction;
 
-// From a select that was answered with yes to the next finish.
+// Where the device is in a selection, which lasts from a select that got yes to the next finish.
 #[derive(Clone, Copy, PartialEq, Eq, Debug)]
 pub enum Selection {
     Closed,

@@ -39,10 +39,7 @@ impl Device for EventQueue {
     ghost holds = { λ _ h. h ≡ 0 };
 
     fn select(&mut self, direction: Direction) -> bool {
-        match direction {
-            Direction::Write => false,
-            Direction::Read => self.bytes.first().is_some(),
-        }
+        direction == Direction::Read && self.bytes.first().is_some()
     }
 
     fn put(&mut self, _byte: u8) -> bool {

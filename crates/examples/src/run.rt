@@ -3,37 +3,17 @@ use crate::setup::{all_clocks, queue_bus};
 use exchange::{End, Event, Mark, Tick};
 use fault::Fault;
 use host::ListHost;
-use parts::{Clocks, PairBus, arm_all, list_of, pair_bus};
-use std::fmt::{self, Display};
+use listing::Numbers;
+use parts::{Clocks, PairBus, TURN, arm_all, list_of, pair_bus};
 use text::OutcomeText;
 use transfer::{Address, Transfer};
 
 const REGISTERS: u32 = 0x50;
 
-// At the slowest clocks a turn ends within 160,000 ticks.
-const MOST_TICKS: u32 = 160_000;
-
-// The numbers of the masters told at a stop, each after a space. Without a stop nobody is told.
-#[derive(Clone, Copy)]
-struct Told(Option<Tick>);
-
-impl Display for Told {
-    fn fmt<W: fmt::Write>(&self, f: &mut fmt::Formatter<W>) -> fmt::Result {
-        if let Some(stop) = self.0 {
-            for (number, mark) in stop.marks.iter().enumerate() {
-                if *mark == Mark::Told {
-                    write!(f, " {number}")?;
-                }
-            }
-        }
-        Ok(())
-    }
-}
-
 // The first stop once both masters are armed.
 fn first_stop(bus: &mut PairBus<ListHost>) -> Option<Tick> {
     arm_all(bus, 2);
-    (0..MOST_TICKS)
+    (0..TURN)
         .map(|_| bus.tick())
         .find(|tick| tick.event == Event::Stop)
 }
@@ -43,8 +23,17 @@ fn example(rt: &HostRuntime, name: &str, one: Transfer, other: Transfer) -> Resu
     let address = Address::new(REGISTERS)?;
     for clocks in all_clocks()? {
         let mut bus = pair_bus(address, clocks, list_of(&[one])?, list_of(&[other])?);
-        let told = Told(first_stop(&mut bus));
+        let stop = first_stop(&mut bus);
         let _ = bus.close();
+        let told = Numbers {
+            masters: match stop {
+                Some(stop) => stop.marks,
+                None => [Mark::Quiet; 8],
+            },
+            mark: Mark::Told,
+            before: " ",
+            after: "",
+        };
         let Clocks { first, second } = clocks;
         println!(rt;
             "{name}, clocks {} {} and {} {}: told{told}",
@@ -60,7 +49,7 @@ fn example(rt: &HostRuntime, name: &str, one: Transfer, other: Transfer) -> Resu
 fn joined_queues(rt: &HostRuntime) -> Result<(), Fault> {
     let mut bus = queue_bus()?;
     arm_all(&mut bus, 1);
-    let ran = bus.run(MOST_TICKS);
+    let ran = bus.run(TURN);
     let ((reader, End), _queues) = bus.close();
     ran?;
     if let Some(outcome) = reader.into_host().last() {

@@ -7,7 +7,8 @@ use wire::Wire;
 mod calls;
 mod running;
 
-// It cannot be copied, and closing it moves it: a closed bus is not ticked.
+// It cannot be copied, and closing it moves it: a closed bus is not ticked. Clauses see it by `bus_model`: the value of a
+// model cannot name what its banks stand for.
 pub struct Bus<M: Masters, P: Ports> {
     wire: Wire,
     masters: M,

@@ -15,6 +15,7 @@ pub enum Fault {
     Io(io::Error),
 }
 
+// By hand: what `thiserror` derives would not promise what it gives.
 impl From<AllocError> for Fault {
     ghost from_gives = { λ _ r. r ≡ Memory };
 

@@ -7,8 +7,8 @@ use std::marker::Model;
 
 mod calls;
 
-// The first `count` of `slots` are the list, and those from `place` on are left. A buffer with its length, since a sensor
-// head has no heap, and the kit's vectors of fixed capacity ask for a default of their items.
+// The first `count` of `slots` are the list, and those from `place` on are left. A buffer with its length: a sensor head
+// has no heap, and the kit's `ArrayVec` would ask a default of the items, which callers need not have.
 #[derive(Drop)]
 pub struct Fifo<T> {
     slots: [T; 8],

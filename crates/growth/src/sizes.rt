@@ -20,6 +20,7 @@ fn count<M: Masters + Drop, P: Ports + Drop>(work: Work, mut bus: Bus<M, P>) -> 
     count
 }
 
+// A match on the number, here and below, and no table: each size of a bank is a type of its own.
 fn with_ports<M: Masters + Drop>(work: Work, masters: M) -> Result<Option<u64>, Refusal>
     requires some_master { 1 ≤ length M.Masters.hosts }
     requires few_masters { length M.Masters.hosts ≤ 8 }
@@ -37,7 +38,7 @@ fn with_ports<M: Masters + Drop>(work: Work, masters: M) -> Result<Option<u64>, 
     Ok(Some(count))
 }
 
-// None where there is no bus of this size. A match and no table, since each size of a bank is a type of its own.
+// None where there is no bus of this size.
 pub fn measure(work: Work) -> Result<Option<u64>, Refusal>
     ensures { IfOk result (λ count. is_some count ≡ (is_masters work.masters && is_ports work.ports)) }
 {

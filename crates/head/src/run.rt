@@ -2,14 +2,14 @@
 use crate::setup::{HeadBus, head_bus};
 use exchange::{End, Masters, Ports};
 use fault::Fault;
+use parts::TURN;
 use printing::print_run;
 use text::{HexBytes, OutcomeText};
 
 const MASTERS: usize = 3;
 
-// At the slowest clocks a turn ends within 160,000 ticks, and 16 turns are far more than the lists and the polls
-// of this head take.
-const MOST_TICKS: u32 = 2_560_000;
+// 16 turns are far more than the lists and the polls of this head take.
+const MOST_TICKS: u32 = 16 * TURN;
 
 // Takes the head apart, and prints the last outcomes and the registers.
 fn print_end(rt: &HostRuntime, bus: HeadBus) -> Result<(), Fault> {

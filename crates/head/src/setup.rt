@@ -33,7 +33,8 @@ const EVENTS: u32 = 0x51;
 // No port has this address.
 const NOBODY: u32 = 0x22;
 
-// Apart from the service port, though the two differ in constants alone: one function would only take these as arguments.
+// Apart from the service port: what each sends is the point of the program, and one function would take all of it as
+// arguments.
 fn logger() -> Result<Master<ListHost>, Refusal>
     ensures { IfOk result (λ m. ListsAt 2 2 log_write log_read (served ⟦<ListHost as Host>⟧ m)) }
 {

@@ -35,6 +35,7 @@ impl ListHost {
         Ok(())
     }
 
+    // Each make has its own: a trait for it would be longer than this.
     pub fn last(&self) -> Option<Outcome>
         ensures { option_map outcome_model result ≡ (listed self.now).last }
     {

@@ -28,6 +28,7 @@ impl PollHost {
         }
     }
 
+    // Each make has its own: a trait for it would be longer than this.
     pub fn last(&self) -> Option<Outcome>
         ensures { option_map outcome_model result ≡ (polled self.now).last }
     {

@@ -1,6 +1,7 @@
 -- The text of a tick, where d is its number in digits: a line for each mark. Assumes nothing.
 use Rattle.std.specs.Prelude.{ℕ, suc, Bool, true, false, cond, Option, Some, None, List, [], ◌∷◌, ◌++◌, codes}
 use Rattle.std.specs.List.{flat_map}
+use Rattle.law.specs.Runs.{is_told}
 use Rattle.master.specs.declared.mark.Mark.{Mark}
 use Rattle.master.specs.declared.mark.Mark.TheVariants.{Quiet, Told, Lost}
 use Rattle.listing.specs.declared.marks.Acknowledge.{Acknowledge}
@@ -33,11 +34,6 @@ abbrev pub is_lost : Mark → Bool
 is_lost Lost = true
 is_lost Told = false
 is_lost Quiet = false
-
-abbrev pub is_told : Mark → Bool
-is_told Told = true
-is_told Lost = false
-is_told Quiet = false
 
 abbrev pub is_quiet : Mark → Bool
 is_quiet Quiet = true

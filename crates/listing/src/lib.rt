@@ -5,5 +5,5 @@ mod listing;
 mod marks;
 
 pub use listing::Listing;
-pub use marks::{Acknowledge, ByteMark, Marks, WireMark};
+pub use marks::{Acknowledge, ByteMark, Marks, Numbers, WireMark};
 pub use text::{bytes_text, decimal, hex, outcome_text};

@@ -6,6 +6,8 @@ use master::Mark;
 
 mod lines;
 
+pub use lines::Numbers;
+
 // The ninth bit of a byte.
 #[derive(Clone, Copy, PartialEq, Eq, Debug)]
 pub enum Acknowledge {

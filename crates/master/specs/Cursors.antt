@@ -127,9 +127,9 @@ abbrev pub outcome_of : CursorModel → OutcomeModel
 outcome_of c = record { kind = c.notes.kind; bytes = reported c.notes.kind c.notes.bytes }
 
 abbrev pub play_model : At → Cursor → Play
-play_model InLeg c = sends (leg_model c.leg) (option_map leg_model (leg_to_come c.rest)) c.byte c.bit
+play_model InLeg c = sends (leg_model c.leg) (option_map leg_model (leg_to_come c.rest)) c.byte c.under_way.bits
 play_model Restart c = again (leg_model c.leg)
 play_model End c = done
 
 abbrev pub cursor_model : Cursor → CursorModel
-cursor_model c = at (play_model c.at c) (record { leg = leg_number c.rest; bytes = bytes_in c.read; value = c.value; kind = c.kind })
+cursor_model c = at (play_model c.at c) (record { leg = leg_number c.rest; bytes = bytes_in c.read; value = c.under_way.value; kind = c.kind })

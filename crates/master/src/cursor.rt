@@ -4,6 +4,7 @@ ghost use Rattle.transfer.specs.Legs.{body_model, body_size};
 ghost use Rattle.master.specs.Rooms.{most_read};
 
 use transfer::{Leg, OutcomeKind, ReadBytes};
+use wire::Partial;
 
 mod steps;
 
@@ -22,6 +23,7 @@ pub enum Rest {
     Second,
 }
 
+// Clauses see it by `cursor_model`: the model of a copied type gives its fields back, and that of a leg cannot.
 #[derive(Clone, Copy)]
 pub struct Cursor {
     at: At,
@@ -29,10 +31,8 @@ pub struct Cursor {
     rest: Rest,
     // 0 is the address
     byte: u8,
-    // 8 is the acknowledge
-    bit: u8,
-    // the bits of the byte that is being read
-    value: u8,
+    // the bits of it so far, of which the ninth is the acknowledge, and what was read by them
+    under_way: Partial,
     read: ReadBytes,
     kind: OutcomeKind,
     ghost in_leg: { byte ≤ body_size (body_model leg.body) },

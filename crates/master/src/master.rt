@@ -27,8 +27,8 @@ pub enum Verdict {
     Told(Outcome),
 }
 
-// Clauses see it by `master_model` and not by an `impl Model`: that would hide the range of the clock's counts, from
-// which the law of a bank of masters is proved.
+// Clauses see it by `master_model`. An `impl Model` was tried: it hides the range of the clock's counts, and then the law
+// `clocked` of a bank of masters has no proof.
 #[derive(Drop)]
 pub struct MasterState {
     clock: ClockPair,
@@ -39,6 +39,7 @@ pub struct MasterState {
     pulls: Pulls,
 }
 
+// Clauses see it by `served`: the value of a model cannot name what a host means.
 #[derive(Drop)]
 pub struct Master<H> {
     state: MasterState,

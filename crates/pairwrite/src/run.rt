@@ -2,12 +2,13 @@
 use crate::setup::bus_of;
 use exchange::{Masters, Ports};
 use fault::Fault;
+use parts::TURN;
 use printing::print_run;
 
 const MASTERS: usize = 2;
 
-// At the slowest clocks a turn ends within 160,000 ticks, and each of the two masters has one.
-const MOST_TICKS: u32 = 320_000;
+// Each of the two masters has one turn.
+const MOST_TICKS: u32 = 2 * TURN;
 
 pub fn run(rt: &HostRuntime, first: u8, second: u8) -> Result<(), Fault> {
     let mut bus = bus_of(first, second)?;

@@ -1,4 +1,4 @@
-// A list host and an event queue, filled as they are made.
+// A list host and an event queue, filled as they are made. A trait over both would have more lines than these two bodies.
 ghost use Rattle.std.specs.Prelude.{◌≡◌};
 ghost use Rattle.transfer.specs.Refusals.{answer};
 ghost use Rattle.device.specs.EventQueues.{queued};

@@ -8,4 +8,4 @@ mod pair;
 
 pub use arming::arm_all;
 pub use filled::{list_of, queue_of};
-pub use pair::{Clocks, PairBus, pair_bus};
+pub use pair::{Clocks, PairBus, TURN, pair_bus};

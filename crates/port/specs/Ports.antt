@@ -1,5 +1,5 @@
 -- One port after one event: select, put, take, finish and hold. Assumes nothing.
-use Rattle.std.specs.Prelude.{ℕ, suc, ◌-◌, ◌/◌, ◌%◌, Bool, true, false, cond, not, ◌&&◌, Some, None, Option, ◌==◌, nat_lt}
+use Rattle.std.specs.Prelude.{ℕ, suc, ◌<◌, ◌-◌, ◌/◌, ◌%◌, Bool, true, false, cond, not, ◌&&◌, Some, None, Option, ◌==◌, nat_lt}
 use Rattle.transfer.specs.declared.leg.Direction.{Direction}
 use Rattle.transfer.specs.declared.leg.Direction.TheVariants.{Write, Read}
 use Rattle.transfer.specs.Legs.{direction_of}
@@ -34,6 +34,10 @@ mode_pulls (Addressing x) = false
 mode_pulls (Writing x) = false
 mode_pulls (Acknowledging d) = true
 mode_pulls (Reading x) = nat_lt x.bits 8 && not (digit x.value (7 - x.bits))
+
+-- for some answer to hold
+abbrev pub ForSomeHold : (ℕ → Type 0) → Type 0
+ForSomeHold P = (h : ℕ) × (h < 256) × P h
 
 module _ (b : Behaviour) where
   abbrev pub port_pulls : PortModel b → Pulls

@@ -17,6 +17,7 @@ pub enum Mode {
     Reading(Partial),
 }
 
+// Clauses see it by `port_model`: the value of a model cannot name what a device means.
 #[derive(Drop)]
 pub struct Port<D> {
     address: Address,

@@ -10,7 +10,8 @@ use listing::Listing;
 use parts::arm_all;
 
 // Ticks until the bus is at rest, `most_ticks` times at most, and prints what each tick shows. The first `masters`
-// masters are armed before each tick. After a fault the bus stands after the tick that was not printed.
+// masters are armed at the beginning and after each tick. After a fault the bus stands, its masters armed, after the
+// tick that was not printed.
 pub fn print_run<M: Masters, P: Ports>(
     rt: &HostRuntime,
     bus: &mut Bus<M, P>,

@@ -1,6 +1,7 @@
 // Numbers, bytes and outcomes as text.
 #![tactic(auto)]
 
+// `HexBytes` and `OutcomeText` print by Display; the functions are for callers who want characters or a String.
 mod digits;
 mod numeral;
 mod outcome;

@@ -16,7 +16,7 @@ impl Address {
     pub fn new(number: u32) -> Result<Address, Refusal>
         ensures { answer (λ a. a.number) result ≡ checked_address number }
     {
-        if number < 8 || number > 119 {
+        if !(8..=119).contains(&number) {
             return Err(Refusal::AddressOutOfRange);
         }
         Ok(Address {

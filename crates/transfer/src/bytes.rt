@@ -4,7 +4,8 @@ ghost use Rattle.transfer.specs.Octets.{Octets};
 
 mod calls;
 
-// The first `len` of `bytes`: a buffer with its length, since a transfer is copied and a sensor head has no heap.
+// The first `len` of `bytes`. A buffer with its length: a sensor head has no heap, and a transfer is copied, which the kit's
+// `ArrayVec` is not. For the same reason clauses see it by `bytes_in`: the model of a copied type gives its fields back.
 #[derive(Clone, Copy)]
 pub struct Bytes<const N: usize> {
     pub bytes: [u8; N],

@@ -19,7 +19,8 @@ impl ClockPair {
     pub fn new(low: u32, high: u32) -> Result<ClockPair, Refusal>
         ensures { answer (λ c. (c.low, c.high)) result ≡ checked_counts low high }
     {
-        if low < 1 || low > 255 || high < 1 || high > 255 {
+        let counts = 1..=255;
+        if !counts.contains(&low) || !counts.contains(&high) {
             return Err(Refusal::ClockOutOfRange);
         }
         Ok(ClockPair {

@@ -4,6 +4,7 @@ ghost use Rattle.transfer.specs.Drafts.{TransferModel, transfer_model};
 use crate::leg::Leg;
 use std::marker::Model;
 
+// Clauses see it by `transfer_model`: the model of a copied type gives its fields back, and that of a leg cannot.
 #[derive(Clone, Copy)]
 pub struct Transfer {
     first: Leg,

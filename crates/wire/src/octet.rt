@@ -50,5 +50,5 @@ pub fn digit_at(byte: u8, place: u8) -> bool
 pub fn shift_in(byte: u8, bit: bool) -> u8
     ensures { result ≡ shifted byte bit }
 {
-    byte % 128 * 2 + bit as u8
+    byte % 128 * 2 + u8::from(bit)
 }

@@ -32,9 +32,8 @@ impl Device for RegisterFile {
     ghost holds = { λ _ h. h ≡ 0 };
 
     fn select(&mut self, direction: Direction) -> bool {
-        match direction {
-            Direction::Write => self.awaits_pointer = true,
-            Direction::Read => {}
+        if direction == Direction::Write {
+            self.awaits_pointer = true;
         }
         true
     }

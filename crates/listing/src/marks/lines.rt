@@ -30,11 +30,11 @@ impl Display for ByteMark {
 
 // The masters with this mark, the lowest first, the number of each between two texts.
 #[derive(Clone, Copy)]
-struct Numbers<D> {
-    masters: [Mark; 8],
-    mark: Mark,
-    before: D,
-    after: &'static str,
+pub struct Numbers<D> {
+    pub masters: [Mark; 8],
+    pub mark: Mark,
+    pub before: D,
+    pub after: &'static str,
 }
 
 impl<D: Display> Display for Numbers<D> {
@@ -88,7 +88,7 @@ impl Marks {
     pub fn text(&self, heap: Global) -> Result<String, AllocError>
         ensures { IfOk result (λ s. (d : List ℕ) × Decimal self.now.tick d × (string_bytes s ≡ lines_of d self.now)) }
     {
-        // a proof knows the range of a number once it is read
+        // read for its range, without which its text is not proved to be a decimal
         let _tick = self.tick;
         self.to_string(heap)
     }

@@ -13,7 +13,7 @@ use crate::symbol::Symbol;
 use transfer::{
     Body, BytePlace, Direction, Leg, LegPlace, Outcome, OutcomeKind, ReadBytes, Transfer,
 };
-use wire::{digit_at, shift_in};
+use wire::{Partial, digit_at};
 
 impl Rest {
     fn leg_number(self) -> u8
@@ -45,8 +45,7 @@ impl Cursor {
             leg,
             rest: Rest::First(next),
             byte: 0,
-            bit: 0,
-            value: 0,
+            under_way: Partial::of(0),
             read: ReadBytes::new(),
             kind: OutcomeKind::Done,
         }
@@ -85,10 +84,11 @@ impl Cursor {
     }
 
     fn leg_symbol(&self) -> Symbol
-        ensures { result ≡ shown (leg_model self.now.leg) self.now.byte self.now.bit }
+        ensures { result ≡ shown (leg_model self.now.leg) self.now.byte self.now.under_way.bits }
     {
-        match (self.is_own(), self.bit < 8) {
-            (true, true) => Symbol::from(digit_at(self.sent_byte(), 7 - self.bit)),
+        let bits = self.under_way.bits;
+        match (self.is_own(), bits < 8) {
+            (true, true) => Symbol::from(digit_at(self.sent_byte(), 7 - bits)),
             (true, false) | (false, true) => Symbol::Listen,
             (false, false) => Symbol::from(self.byte >= self.leg.size()),
         }
@@ -104,7 +104,7 @@ impl Cursor {
                 self.at = At::InLeg;
                 self.rest = Rest::Second;
                 self.byte = 0;
-                self.bit = 0;
+                self.under_way.bits = 0;
             }
             At::InLeg => self.advance_in_leg(heard),
         }
@@ -115,11 +115,12 @@ impl Cursor {
         ensures { cursor_model self.new ≡ cursor_next (cursor_model self.old) heard }
     {
         let is_own = self.is_own();
-        if self.bit < 8 {
-            self.bit += 1;
-            if !is_own {
-                self.value = shift_in(self.value, heard);
-            }
+        if self.under_way.bits < 8 {
+            self.under_way = if is_own {
+                self.under_way.shown()
+            } else {
+                self.under_way.received(heard)
+            };
         } else if is_own && heard {
             self.kind = self.unanswered();
             self.at = At::End;
@@ -150,10 +151,10 @@ impl Cursor {
         ensures { cursor_model self.new ≡ left (is_own) (leg_model self.old.leg) (option_map leg_model (leg_to_come self.old.rest)) self.old.byte (cursor_model self.old).notes }
     {
         if !is_own {
-            self.read.push(self.value);
-            self.value = 0;
+            self.read.push(self.under_way.value);
+            self.under_way.value = 0;
         }
-        self.bit = 0;
+        self.under_way.bits = 0;
         if self.byte < self.leg.size() {
             self.byte += 1;
             return;

@@ -56,26 +56,18 @@ impl MasterState {
                 (Symbol::One | Symbol::RepeatedStart, false) => self.lose(),
                 (Symbol::RepeatedStart, true) => {
                     self.pulls.sda = true;
-                    self.count = self.clock.high();
-                    Verdict::Quiet
+                    self.count_high()
                 }
                 (Symbol::Stop, _) => {
                     self.stage = Stage::Ending(*cursor);
                     self.pulls.sda = false;
-                    self.count = self.clock.high();
-                    Verdict::Quiet
+                    self.count_high()
                 }
-                _ => {
-                    self.count = self.clock.high();
-                    Verdict::Quiet
-                }
+                _ => self.count_high(),
             },
             (Event::Start, Stage::Showing(Symbol::One, _)) => self.lose(),
             (Event::Start, Stage::Opening(_) | Stage::Showing(..))
-            | (Event::Rise(_), Stage::Opening(_)) => {
-                self.count = self.clock.high();
-                Verdict::Quiet
-            }
+            | (Event::Rise(_), Stage::Opening(_)) => self.count_high(),
             (Event::Stop, Stage::Ending(cursor)) => {
                 let outcome = cursor.outcome();
                 self.tell(outcome)
@@ -97,6 +89,15 @@ impl MasterState {
                 sda: true,
             };
         }
+        Verdict::Quiet
+    }
+
+    // At a rise or a start the high count begins.
+    fn count_high(&mut self) -> Verdict
+        ensures after { master_model self.new ≡ to transfers (master_model self.old) (master_model self.old).stage self.old.clock.high self.old.pulls.scl self.old.pulls.sda }
+        ensures verdict { verdict_model result ≡ quiet }
+    {
+        self.count = self.clock.high();
         Verdict::Quiet
     }
 

@@ -1,6 +1,6 @@
 // How a port steps, and what it asks its device.
-ghost use Rattle.std.specs.Prelude.{◌≡◌, ℕ, ◌<◌};
-ghost use Rattle.port.specs.Ports.{port_new, port_model, mode_pulls, port_pulls, counts, reads_on, settles, port_step, new_port};
+ghost use Rattle.std.specs.Prelude.{◌≡◌};
+ghost use Rattle.port.specs.Ports.{ForSomeHold, port_new, port_model, mode_pulls, port_pulls, counts, reads_on, settles, port_step, new_port};
 ghost use Rattle.port.specs.declared.port.Mode.TheVariants.{Addressing, Writing, Reading};
 
 use super::{Mode, Port};
@@ -65,7 +65,7 @@ impl<D: Device> Port<D> {
     }
 
     pub fn step(&mut self, signal: Signal)
-        ensures { (h : ℕ) × (h < 256) × (port_model D.Device self.new ≡ port_step _ (port_model D.Device self.old) signal h) }
+        ensures { ForSomeHold (λ h. port_model D.Device self.new ≡ port_step _ (port_model D.Device self.old) signal h) }
     {
         match (self.mode, signal.event, signal.bit) {
             (_, Event::Start, _) => self.settle(Mode::Addressing(Partial::of(0))),
@@ -97,7 +97,7 @@ impl<D: Device> Port<D> {
     // At the eighth bit of the address byte a port that it calls selects its device.
     fn address_bit(&mut self, byte: Partial, bit: bool)
         requires { self.old.mode ≡ Addressing byte }
-        ensures { (h : ℕ) × (h < 256) × (port_model D.Device self.new ≡ counts _ (port_model D.Device self.old) (Addressing byte) bit h) }
+        ensures { ForSomeHold (λ h. port_model D.Device self.new ≡ counts _ (port_model D.Device self.old) (Addressing byte) bit h) }
     {
         let value = shift_in(byte.value, bit);
         if byte.bits < 7 {
@@ -118,7 +118,7 @@ impl<D: Device> Port<D> {
     // At the eighth bit of a written byte it is put.
     fn write_bit(&mut self, byte: Partial, bit: bool)
         requires { self.old.mode ≡ Writing byte }
-        ensures { (h : ℕ) × (h < 256) × (port_model D.Device self.new ≡ counts _ (port_model D.Device self.old) (Writing byte) bit h) }
+        ensures { ForSomeHold (λ h. port_model D.Device self.new ≡ counts _ (port_model D.Device self.old) (Writing byte) bit h) }
     {
         if byte.bits < 7 {
             self.mode = Mode::Writing(byte.received(bit));
@@ -131,7 +131,7 @@ impl<D: Device> Port<D> {
 
     fn read_bit(&mut self, byte: Partial, bit: bool)
         requires { self.old.mode ≡ Reading byte }
-        ensures { (h : ℕ) × (h < 256) × (port_model D.Device self.new ≡ counts _ (port_model D.Device self.old) (Reading byte) bit h) }
+        ensures { ForSomeHold (λ h. port_model D.Device self.new ≡ counts _ (port_model D.Device self.old) (Reading byte) bit h) }
     {
         if byte.bits < 8 {
             self.mode = Mode::Reading(byte.shown());
@@ -142,7 +142,7 @@ impl<D: Device> Port<D> {
 
     // At the ninth bit of a read an N puts the port out, and at an A it takes a byte and then reads hold.
     fn read_on(&mut self, nack: bool)
-        ensures { (h : ℕ) × (h < 256) × (port_model D.Device self.new ≡ reads_on _ (port_model D.Device self.old) nack (D.Device.behaviour.take (D.Device.means self.old.device)) h) }
+        ensures { ForSomeHold (λ h. port_model D.Device self.new ≡ reads_on _ (port_model D.Device self.old) nack (D.Device.behaviour.take (D.Device.means self.old.device)) h) }
     {
         if nack {
             self.mode = Mode::Out;
