@@ -48,7 +48,7 @@ impl Draft {
     pub fn read(&mut self, count: u32) -> Result<(), Refusal>
         ensures { (answer (λ u. u) result, self.new) ≡ read_set count self.old }
     {
-        if count < 1 || count > 16 {
+        if !(1..=16).contains(&count) {
             return Err(Refusal::LengthOutOfRange);
         }
         self.set_body(Body::Read(ReadCount { count: count as u8 }));
