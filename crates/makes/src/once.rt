@@ -23,6 +23,7 @@ impl Once {
         }
     }
 
+    // Each make has its own: a trait for it would be longer than this.
     pub fn last(&self) -> Option<Outcome>
         ensures { option_map outcome_model result ≡ (asked self.now).last }
     {
