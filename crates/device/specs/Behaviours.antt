@@ -8,3 +8,5 @@ pub record Behaviour : Type 1 where
   pub put : Meaning → ℕ → Bool × Meaning
   pub take : Meaning → ℕ × Meaning
   pub finish : Meaning → Meaning
+  -- what hold may answer
+  pub holds : Meaning → ℕ → Type 0

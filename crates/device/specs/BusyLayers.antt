@@ -49,6 +49,7 @@ module _ (b : Behaviour) where
     put = λ m x. given m (b.put m.below x);
     take = λ m. taken m (b.take m.below);
     finish = finished;
+    holds = λ m h. b.holds m.below h;
   }
 
   abbrev pub busied : {D : Type 0} → (D → b.Meaning) → Busy D → Busied

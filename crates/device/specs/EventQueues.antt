@@ -1,5 +1,5 @@
 -- The event queue: bytes that are read once, the oldest first. Assumes nothing.
-use Rattle.std.specs.Prelude.{ℕ, Bool, false, List, is_some}
+use Rattle.std.specs.Prelude.{◌≡◌, ℕ, Bool, false, List, is_some}
 use Rattle.std.specs.Option.{unwrap_or}
 use Rattle.fifo.specs.Fifos.{first_of, later}
 use Rattle.transfer.specs.declared.leg.Direction.{Direction}
@@ -19,6 +19,7 @@ event_queue = record {
   put = λ m x. (false, m);
   take = λ m. (unwrap_or (first_of m) 255, later m);
   finish = λ m. m;
+  holds = λ m h. h ≡ 0;
 }
 
 abbrev pub queued : EventQueue → List ℕ

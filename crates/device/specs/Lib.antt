@@ -1,4 +1,6 @@
+pub mod Steps
 pub mod Behaviours
 pub mod RegisterFiles
 pub mod EventQueues
 pub mod BusyLayers
+pub mod SlowLayers

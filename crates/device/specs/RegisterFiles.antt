@@ -1,5 +1,5 @@
 -- The register file: 16 bytes and a pointer, which the first byte of a write sets. Assumes nothing.
-use Rattle.std.specs.Prelude.{ℕ, ◌+◌, ◌%◌, Bool, true, false, cond, List, replicate, nat_lt, slice_index, slice_set}
+use Rattle.std.specs.Prelude.{◌≡◌, ℕ, ◌+◌, ◌%◌, Bool, true, false, cond, List, replicate, nat_lt, slice_index, slice_set}
 use Rattle.transfer.specs.declared.leg.Direction.{Direction}
 use Rattle.transfer.specs.declared.leg.Direction.TheVariants.{Write, Read}
 use Rattle.device.specs.declared.register_file.RegisterFile.{RegisterFile}
@@ -40,4 +40,5 @@ register_file = record {
   put = λ m x. cond m.awaits (pointed m x) (true, stored m x);
   take = λ m. (slice_index m.bytes m.pointer, advanced m);
   finish = λ m. m;
+  holds = λ m h. h ≡ 0;
 }

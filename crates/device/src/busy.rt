@@ -55,8 +55,6 @@ impl<D: Device> Device for Busy<D> {
 
     ghost means = { busied D.Device.behaviour D.Device.means };
 
-    ghost holds = { λ b h. D.Device.holds b.device h };
-
     fn select(&mut self, direction: Direction) -> bool {
         if self.left > 0 {
             self.left -= 1;

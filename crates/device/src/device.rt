@@ -1,5 +1,5 @@
 // The trait of every device: four steps, and the open question how long to hold the clock.
-ghost use Rattle.std.specs.Prelude.{◌≡◌, ℕ};
+ghost use Rattle.std.specs.Prelude.{◌≡◌};
 ghost use Rattle.device.specs.Behaviours.{Behaviour};
 
 use transfer::Direction;
@@ -8,9 +8,6 @@ pub trait Device {
     ghost behaviour: { Behaviour };
 
     ghost means: { Self → behaviour.Meaning };
-
-    // What hold may answer, where a make says more than that it is a byte. A bus uses nothing of it.
-    ghost holds: { Self → ℕ → Type 0 } = { λ _ _. Unit {0} };
 
     fn select(&mut self, direction: Direction) -> bool
         ensures { (result, means self.new) ≡ behaviour.select (means self.old) direction };
@@ -26,6 +23,6 @@ pub trait Device {
 
     // For how many ticks to hold the clock low. The meaning does not say, and stays.
     fn hold(&mut self) -> u8
-        ensures answer { holds self.old result }
+        ensures answer { behaviour.holds (means self.old) result }
         ensures same { means self.new ≡ means self.old };
 }

@@ -36,8 +36,6 @@ impl Device for EventQueue {
 
     ghost means = { queued };
 
-    ghost holds = { λ _ h. h ≡ 0 };
-
     fn select(&mut self, direction: Direction) -> bool {
         direction == Direction::Read && self.bytes.first().is_some()
     }

@@ -1,5 +1,6 @@
 // A layer that holds the clock for at least its own number of ticks.
-ghost use Rattle.std.specs.Prelude.{◌≡◌, ℕ, max};
+ghost use Rattle.std.specs.Prelude.{◌≡◌};
+ghost use Rattle.device.specs.SlowLayers.{slow_over, slowed};
 
 use crate::device::Device;
 use transfer::Direction;
@@ -27,12 +28,9 @@ impl<D: Device> Slow<D> {
 }
 
 impl<D: Device> Device for Slow<D> {
-    ghost behaviour = { D.Device.behaviour };
+    ghost behaviour = { slow_over D.Device.behaviour };
 
-    ghost means = { λ s. D.Device.means s.device };
-
-    // the larger of its own number and the answer below
-    ghost holds = { λ s h. (below : ℕ) × D.Device.holds s.device below × (h ≡ max s.number below) };
+    ghost means = { slowed D.Device.behaviour D.Device.means };
 
     fn select(&mut self, direction: Direction) -> bool {
         self.device.select(direction)

@@ -1,5 +1,5 @@
 -- The worked examples, computed.
-use Rattle.std.proofs.Common.{◌≡◌, ℕ, List, [], ◌∷◌, Some, None, Option, refl, ◌∙◌, ap₂}
+use Rattle.std.proofs.Common.{◌≡◌, ℕ, List, [], ◌∷◌, Some, None, Option, refl, ap, ◌∙◌, ap₂}
 use Rattle.transfer.specs.declared.draft.Transfer.{Transfer}
 use Rattle.transfer.specs.Drafts.{TransferModel, transfer_model}
 use Rattle.transfer.specs.Outcomes.{OutcomeModel}
@@ -41,9 +41,14 @@ module _ (b : Behaviour) (m : b.Meaning) where
 
 wins : (a c : TransferModel) (xs : List ℕ) (after : Registers) →
     tells register_file new_registers a c ≡ done xs ∷ None ∷ [] → device_after register_file new_registers a c ≡ placed register_file after →
-    ((f g : Transfer) → (standings register_file new_registers f g a c).0.standing ≡ unarmed) → ((f g : Transfer) → (standings register_file new_registers f g a c).1.0.standing ≡ armed) →
+    tells register_file new_registers c a ≡ None ∷ done xs ∷ [] → device_after register_file new_registers c a ≡ placed register_file after →
     Wins a c xs after
-wins a c xs after t d x y f g e h = turn register_file new_registers f g a c (done xs) None after unarmed armed e h t d (x f g) (y f g)
+wins a c xs after t d u e f g p q = (
+  turn register_file new_registers f g a c (done xs) None after unarmed armed p q t d (ap (λ l. (leave_all two_hosts (open_book register_file f g new_registers).entries l).0.standing) t)
+      (ap (λ l. (leave_all two_hosts (open_book register_file f g new_registers).entries l).1.0.standing) t),
+  turn register_file new_registers g f c a None (done xs) after armed unarmed q p u e (ap (λ l. (leave_all two_hosts (open_book register_file g f new_registers).entries l).0.standing) u)
+      (ap (λ l. (leave_all two_hosts (open_book register_file g f new_registers).entries l).1.0.standing) u),
+)
 
 strings : StringExamples
 strings =
@@ -61,11 +66,11 @@ strings =
 turns : TurnExamples
 turns =
     record {
-      stop_over_one = wins (write (0x03 ∷ [])) (write (0x03 ∷ 0x80 ∷ [])) [] (pointed_at 3) refl refl (λ f g. refl) (λ f g. refl);
-      zero_over_stop = wins (write (0x03 ∷ 0x00 ∷ [])) (write (0x03 ∷ [])) [] (pointed_at 4) refl refl (λ f g. refl) (λ f g. refl);
-      stop_over_restart = wins (write (0x03 ∷ [])) (write_read (0x03 ∷ []) 1) [] (pointed_at 3) refl refl (λ f g. refl) (λ f g. refl);
-      restart_over_one = wins (write_read (0x03 ∷ []) 1) (write (0x03 ∷ 0x80 ∷ [])) (0 ∷ []) (pointed_at 4) refl refl (λ f g. refl) (λ f g. refl);
-      more_over_fewer = wins (read_of 3) (read_of 2) (0 ∷ 0 ∷ 0 ∷ []) (pointed_at 3) refl refl (λ f g. refl) (λ f g. refl);
+      stop_over_one = wins (write (0x03 ∷ [])) (write (0x03 ∷ 0x80 ∷ [])) [] (pointed_at 3) refl refl refl refl;
+      zero_over_stop = wins (write (0x03 ∷ 0x00 ∷ [])) (write (0x03 ∷ [])) [] (pointed_at 4) refl refl refl refl;
+      stop_over_restart = wins (write (0x03 ∷ [])) (write_read (0x03 ∷ []) 1) [] (pointed_at 3) refl refl refl refl;
+      restart_over_one = wins (write_read (0x03 ∷ []) 1) (write (0x03 ∷ 0x80 ∷ [])) (0 ∷ []) (pointed_at 4) refl refl refl refl;
+      more_over_fewer = wins (read_of 3) (read_of 2) (0 ∷ 0 ∷ 0 ∷ []) (pointed_at 3) refl refl refl refl;
       equal_writes = λ f g e h.
           turn (busy_over register_file) (busy_registers 0 new_registers) f g (write (0x03 ∷ 0x12 ∷ [])) (write (0x03 ∷ 0x12 ∷ [])) (done []) (done [])
           (busy_registers 1 (stored_at_3 4)) unarmed unarmed e h refl refl refl refl;

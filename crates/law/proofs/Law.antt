@@ -17,6 +17,7 @@ pub mod Cells
 pub mod Runs
 pub mod Contests
 pub mod Stands
+pub mod Unmarked
 pub mod Stops
 pub mod Steps
 pub mod Every

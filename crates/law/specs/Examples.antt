@@ -167,9 +167,10 @@ pub record StringExamples : Type 0 where
     devices = placed (busy_over register_file) (busy_registers 1 (pointed_at 3));
   }
 
--- the first of two transfers to a fresh register file wins over the second, reads these bytes, and leaves the register file so
+-- the first of two transfers to a fresh register file wins over the second, whichever master sends it, reads these bytes, and leaves the register file so
 abbrev pub Wins : TransferModel → TransferModel → List ℕ → Registers → Type 0
-Wins a b xs after = (f g : Transfer) → transfer_model f ≡ a → transfer_model g ≡ b → Turn register_file f g new_registers (done xs) None after unarmed armed
+Wins a b xs after = (f g : Transfer) → transfer_model f ≡ a → transfer_model g ≡ b →
+    Turn register_file f g new_registers (done xs) None after unarmed armed × Turn register_file g f new_registers None (done xs) after armed unarmed
 
 pub record TurnExamples : Type 0 where
   pub stop_over_one : Wins (write (0x03 ∷ [])) (write (0x03 ∷ 0x80 ∷ [])) [] (pointed_at 3)

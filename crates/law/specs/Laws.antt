@@ -1,7 +1,8 @@
 -- The law over every use of a bus, in the words of turns, strings and the turn book. Assumes nothing.
-use Rattle.std.specs.Prelude.{◌≡◌, ℕ, zero, suc, ◌+◌, ◌<◌, ◌≤◌, Bool, true, false, cond, not, ◌||◌, ◌↔◌, List, [], ◌∷◌, ◌++◌, length, get_or, is_some, is_ok, Some, None, Ok, Option, Result, nat_lt, slice_index_or}
+use Rattle.std.specs.Prelude.{◌≡◌, ℕ, zero, suc, ◌+◌, ◌<◌, ◌≤◌, Bool, true, false, cond, not, ◌||◌, ◌↔◌, List, [], ◌∷◌, ◌++◌, map, length, get_or, is_some, is_ok, Some, None, Ok, Option, Result, nat_lt, slice_index_or}
 use Rattle.std.specs.List.{fold, count_by}
 use Rattle.device.specs.Behaviours.{Behaviour}
+use Rattle.device.specs.Steps.{Step}
 use Rattle.host.specs.Behaviours.{HostBehaviour}
 use Rattle.master.specs.declared.mark.Mark.{Mark}
 use Rattle.master.specs.declared.mark.Mark.TheVariants.{Quiet, Told, Lost}
@@ -13,7 +14,8 @@ use Rattle.law.specs.Buses.{BusModel, Holds, made, arm_at, levels_at, tick_at, t
 use Rattle.master.specs.Serving.{Served, served_armed, served_mark, served_pulls}
 use Rattle.law.specs.Carrying.{Placed, Carried}
 use Rattle.port.specs.Ports.{PortModel}
-use Rattle.law.specs.Runs.{how_many, RunModel, run_at}
+use Rattle.port.specs.Asks.{asks}
+use Rattle.law.specs.Runs.{how_many, is_told, RunModel, run_at}
 use Rattle.law.specs.Strings.{Letter, zero as low, stop, restart, bit_letter, rank, first_or_same}
 use Rattle.wire.specs.Wires.{no_pulls, event, signal, latched, counted}
 
@@ -42,7 +44,7 @@ abbrev pub sees : Watch → Event → Watch
 sees w Fall = watching (suc w.falls) false w.marked (latched w.latch Fall) (w.spelled ++ bit_spelled (counted w.latch Fall))
 sees w (Rise b) = watching w.falls true w.marked (latched w.latch (Rise b)) w.spelled
 sees w Start = starts_again w.falls w
-sees w Stop = watching w.falls w.risen w.marked (latched w.latch Stop) (w.spelled ++ (stop ∷ []))
+sees w Stop = watching w.falls false w.marked (latched w.latch Stop) (w.spelled ++ (stop ∷ []))
 sees w SteadyHigh = w
 sees w SteadyLow = w
 
@@ -58,6 +60,12 @@ marked_too (v ∷ vs) (k ∷ ks) = (v || is_lost k) ∷ marked_too vs ks
 
 abbrev pub notes_lost : Watch → List Mark → Watch
 notes_lost w ks = watching w.falls w.risen (marked_too w.marked ks) w.latch w.spelled
+
+-- each list with what is new behind it
+abbrev pub longer : List (List Step) → List (List Step) → List (List Step)
+longer [] ys = []
+longer (x ∷ xs) [] = x ∷ xs
+longer (x ∷ xs) (y ∷ ys) = (x ++ y) ∷ longer xs ys
 
 abbrev pub how_many_true : List Bool → ℕ
 how_many_true vs = count_by (λ v. v) vs
@@ -80,11 +88,13 @@ module _ (hs : List HostBehaviour) (ds : List Behaviour) where
     ticks : Holds ds → Call
     runs : ℕ → (ℕ → Holds ds) → Call
 
-  -- a bus in use, with the turn book and the watcher beside it, and the arms accepted and the outcomes told so far
+  -- a bus in use, with the turn book and the watcher beside it, the steps that each port asked of its device in the open
+  -- turn, and the arms accepted and the outcomes told so far
   pub record Use : Type 0 where
     pub bus : BusModel hs ds
     pub book : Book hs ds
     pub watch : Watch
+    pub asked : List (List Step)
     pub accepted : ℕ
     pub told : ℕ
 
@@ -104,15 +114,28 @@ module _ (hs : List HostBehaviour) (ds : List Behaviour) where
     bus = a.1;
     book = (book_arm hs ds x.book n).1;
     watch = x.watch;
+    asked = x.asked;
     accepted = x.accepted + cond (is_ok a.0) 1 0;
     told = x.told;
   }
+
+  -- what each port asks of its device in the next tick
+  abbrev pub asks_at : BusModel hs ds → List (List Step)
+  asks_at u = listed (λ b p. asks b p (signal u.wire (levels_at hs ds u))) ds u.ports
+
+  abbrev pub nothing_asked : BusModel hs ds → List (List Step)
+  nothing_asked u = listed (λ b p. []) ds u.ports
+
+  -- what was asked in a turn, once the next tick is made; it begins anew where no turn is open before the tick
+  abbrev pub asked_then : Use → List (List Step)
+  asked_then x = longer (cond x.book.turn x.asked (nothing_asked x.bus)) (asks_at x.bus)
 
   abbrev pub ticks_once : Use → Holds ds → Use
   ticks_once x a = record {
     bus = (tick_at hs ds x.bus a).1;
     book = book_after hs ds x.book (event_at x.bus);
     watch = notes_lost (watched x.watch x.book (event_at x.bus)) (marks_of x.bus);
+    asked = asked_then x;
     accepted = x.accepted;
     told = x.told + how_many (told_at hs ds x.bus);
   }
@@ -142,6 +165,7 @@ module _ (hs : List HostBehaviour) (ds : List Behaviour) where
     bus = made hs ds ms ps;
     book = record { entries = each new_entry hs ms; devices = each placed_at ds ps; turn = false };
     watch = watching 0 false [] None [];
+    asked = listed (λ b p. []) ds ps;
     accepted = 0;
     told = 0;
   }
@@ -183,6 +207,8 @@ module _ (hs : List HostBehaviour) (ds : List Behaviour) where
   -- what holds of the next tick
   pub record TickLaw (x : Use) : Type 0 where
     pub tells : told_at hs ds x.bus ≡ book_tells hs ds x.book (event_at x.bus)
+    -- a mark tells of an outcome exactly where one is told
+    pub marks : map is_told (marks_of x.bus) ≡ map is_some (told_at hs ds x.bus)
     pub loses : (i : ℕ) → slice_index_or (marks_of x.bus) i Quiet ≡ Lost → Loses x i
     pub stops : event_at x.bus ≡ Stop → x.book.turn ≡ true → (i : ℕ) (own : Carried ds) → slice_index_or (contests hs ds x.book) i None ≡ Some own → Stopped x i own
     -- what was spelled is the least string
@@ -203,6 +229,11 @@ module _ (hs : List HostBehaviour) (ds : List Behaviour) where
   ticks_of x [] = 0
   ticks_of x (c ∷ cs) = ticks_of_call x c + ticks_of (calls x c) cs
 
+  -- so many ticks, one by one
+  abbrev pub one_by_one : ℕ → ℕ → (ℕ → Holds ds) → List Call
+  one_by_one zero k a = []
+  one_by_one (suc n) k a = ticks (a k) ∷ one_by_one n (suc k) a
+
   pub record Law (x : Use) : Type 0 where
     pub point : Point x
     pub tick : TickLaw x
@@ -211,6 +242,10 @@ module _ (hs : List HostBehaviour) (ds : List Behaviour) where
     -- a run counts the outcomes told in it
     pub run : (n : ℕ) (a : ℕ → Holds ds) → n ≤ 1000000 → (r : RunModel) → (run_at hs ds x.bus n a).0 ≡ Ok r →
         ((calls x (runs n a)).told ≡ x.told + r.outcomes) × (ticks_of_call x (runs n a) ≡ r.ticks)
+    -- it is the ticks that it makes, so the law holds between any two of them
+    pub run_is_ticks : (n : ℕ) (a : ℕ → Holds ds) → calls x (runs n a) ≡ used x (one_by_one (ticks_of_call x (runs n a)) 0 a)
+    -- and leaves the bus of the use, also where it is refused
+    pub run_leaves : (n : ℕ) (a : ℕ → Holds ds) → (run_at hs ds x.bus n a).1 ≡ (calls x (runs n a)).bus
     -- any 160,000 ticks from a point with a master armed tell an outcome, whatever calls they come from
     pub lively : any_true (armed_now x) ≡ true → (cs : List Call) → 160000 ≤ ticks_of x cs → x.told < (used x cs).told
 

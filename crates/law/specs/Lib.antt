@@ -8,3 +8,4 @@ pub mod Books
 pub mod Examples
 pub mod Runs
 pub mod Laws
+pub mod Asked

@@ -1,5 +1,5 @@
 -- The counter: it is read and not written, and each byte read is how many were read before, modulo 256. Assumes nothing.
-use Rattle.std.specs.Prelude.{ℕ, ◌+◌, ◌%◌, Bool, true, false}
+use Rattle.std.specs.Prelude.{◌≡◌, ℕ, ◌+◌, ◌%◌, Bool, true, false}
 use Rattle.device.specs.Behaviours.{Behaviour}
 use Rattle.transfer.specs.declared.leg.Direction.{Direction}
 use Rattle.transfer.specs.declared.leg.Direction.TheVariants.{Write, Read}
@@ -16,6 +16,7 @@ counter = record {
   put = λ m x. (false, m);
   take = λ m. (m, (m + 1) % 256);
   finish = λ m. m;
+  holds = λ m h. h ≡ 0;
 }
 
 abbrev pub counted : Counter → ℕ

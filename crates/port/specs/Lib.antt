@@ -1,1 +1,2 @@
 pub mod Ports
+pub mod Asks

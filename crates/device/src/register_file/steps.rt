@@ -29,8 +29,6 @@ impl Device for RegisterFile {
 
     ghost means = { registers };
 
-    ghost holds = { λ _ h. h ≡ 0 };
-
     fn select(&mut self, direction: Direction) -> bool {
         if direction == Direction::Write {
             self.awaits_pointer = true;

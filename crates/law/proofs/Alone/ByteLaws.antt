@@ -32,7 +32,7 @@ every_each g A R f [] d h = tt
 every_each g A R f (b ∷ ds) d h = (f b d.0 h.0, every_each g A R f ds d.1 h.1)
 
 -- who is in was called for, and said yes
-abbrev Called : ℕ → (b : Behaviour) → Taking b → Type 0
+abbrev pub Called : ℕ → (b : Behaviour) → Taking b → Type 0
 Called a b p = p.inside ≡ true → (answers_to p.address a ≡ true) × (p.yes ≡ true)
 
 called_select : (a : ℕ) (r : Direction) (b : Behaviour) (d : Placed b) (t : Bool) → answers_to d.address a ≡ t → Called a b (selected b a r d)
@@ -55,18 +55,18 @@ accepts : (a x : ℕ) (b : Behaviour) (o : ℕ) (m : b.Meaning) (y t : Bool) →
 accepts a x b o m y t h k = grind arith
 
 -- nine levels on
-nine : (y : ℕ) → 9 * suc y + 8 ≡ suc (suc (suc (suc (suc (suc (suc (suc (suc (9 * y + 8)))))))))
+pub nine : (y : ℕ) → 9 * suc y + 8 ≡ suc (suc (suc (suc (suc (suc (suc (suc (suc (9 * y + 8)))))))))
 nine y = omega arith
 
 module _ (ds : List Behaviour) where
   -- the next byte of a write, by whether somebody took it
-  abbrev took : ℕ → Passed ds → Passed ds → Bool → Passed ds
+  abbrev pub took : ℕ → Passed ds → Passed ds → Bool → Passed ds
   took x r s t = cond t (after_byte ds (byte_levels x false) [] r) (after_byte ds (byte_levels x true) [] s)
 
-  ninth : (x : ℕ) (r s : Passed ds) (t : Bool) → get_or (took x r s t).levels 8 true ≡ false → t ≡ true
+  pub ninth : (x : ℕ) (r s : Passed ds) (t : Bool) → get_or (took x r s t).levels 8 true ≡ false → t ≡ true
   ninth x r s t h = grind arith
 
-  later : (x : ℕ) (r s : Passed ds) (t : Bool) (k : ℕ) → s.levels ≡ [] → get_or (took x r s t).levels (suc (suc (suc (suc (suc (suc (suc (suc (suc k))))))))) true ≡ false →
+  pub later : (x : ℕ) (r s : Passed ds) (t : Bool) (k : ℕ) → s.levels ≡ [] → get_or (took x r s t).levels (suc (suc (suc (suc (suc (suc (suc (suc (suc k))))))))) true ≡ false →
       get_or r.levels k true ≡ false
   later x r s t k h e = grind arith
 

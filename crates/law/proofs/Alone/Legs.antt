@@ -43,7 +43,7 @@ below : (k : ℕ) → ltb k 7 ≡ true → ltb k 8 ≡ true
 below k e = grind (arith, nat_tests)
 
 -- the byte that calls for a leg says its address and its direction
-record Calls (g : LegModel) (x : ℕ) : Type 0 where
+pub record Calls (g : LegModel) (x : ℕ) : Type 0 where
   pub sent_is : sent g 0 ≡ x
   pub small : x < 256
   pub address_is : x / 2 ≡ g.address
@@ -55,7 +55,7 @@ even_write a = grind (arith, nat_tests)
 odd_read : (a : ℕ) → eqb ((a * 2 + 1) % 2) 1 ≡ true
 odd_read a = grind (arith, nat_tests)
 
-calls : (a : ℕ) (b : BodyModel) → a < 128 → Calls (leg a b) (call_byte a b)
+pub calls : (a : ℕ) (b : BodyModel) → a < 128 → Calls (leg a b) (call_byte a b)
 calls a (writes xs) h = record { sent_is = refl; small = omega arith; address_is = omega arith; direction_is = ap direction_of (even_write a) }
 calls a (reads n) h = record { sent_is = refl; small = omega arith; address_is = omega arith; direction_is = ap direction_of (odd_read a) }
 
@@ -86,7 +86,7 @@ module _ (ds : List Behaviour) (o : Option LegModel) (K : CursorModel → Bank P
   own_shown : (g : LegModel) (y k : ℕ) → own g y ≡ true → ltb k 8 ≡ true → shown g y k ≡ bit_symbol (digit (sent g y) (7 - k))
   own_shown g y k a e = rw (a, e)
 
-  address_plays : (g : LegModel) (x : ℕ) (m : Notes) (d : Bank Placed ds) (bs : List Bool) → Calls g x → let r = body_direction g.body in
+  pub address_plays : (g : LegModel) (x : ℕ) (m : Notes) (d : Bank Placed ds) (bs : List Bool) → Calls g x → let r = body_direction g.body in
       Goes (at (sends g o 0 8) m) (each (acknowledging_at r) ds (called_for ds g.address r d)) bs →
       Goes (at (sends g o 0 0) m) (each (addressing_at 0 0) ds d) (low_bits 8 x bs)
   address_plays g x m d bs h r = byte transfers (ports_side ds) K x (λ k v. at (sends g o 0 k) m) (λ k v. each (addressing_at k v) ds d)
@@ -97,7 +97,7 @@ module _ (ds : List Behaviour) (o : Option LegModel) (K : CursorModel → Bank P
       (λ v b. address_full ds d v b)
       bs h.small (rw (h.direction_is, h.address_is) r)
 
-  written_plays : (a : ℕ) (xs : List ℕ) (y x : ℕ) (m : Notes) (d : Bank Taking ds) (bs : List Bool) → get_or xs y 0 ≡ x → x < 256 →
+  pub written_plays : (a : ℕ) (xs : List ℕ) (y x : ℕ) (m : Notes) (d : Bank Taking ds) (bs : List Bool) → get_or xs y 0 ≡ x → x < 256 →
       Goes (at (sends (leg a (writes xs)) o (suc y) 8) m) (each (acknowledging_at Write) ds (put_to_all ds x d)) bs →
       Goes (at (sends (leg a (writes xs)) o (suc y) 0) m) (each (writing_at 0 0) ds d) (low_bits 8 x bs)
   written_plays a xs y x m d bs f h r = byte transfers (ports_side ds) K x (λ k v. at (sends (leg a (writes xs)) o (suc y) k) m) (λ k v. each (writing_at k v) ds d)

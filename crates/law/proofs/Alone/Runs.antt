@@ -28,7 +28,7 @@ module _ (D : Side) where
     pub open_is : ends x ≡ false
     pub quiet_is : (x ≡ Listen → ⊥) → D.pulls s ≡ false
 
-  level_slot : (x : Symbol) (s : D.S) (b : Bool) → CarriesLevel x (D.pulls s) b → Slot x s (bit_letter b) b (D.bit s b)
+  pub level_slot : (x : Symbol) (s : D.S) (b : Bool) → CarriesLevel x (D.pulls s) b → Slot x s (bit_letter b) b (D.bit s b)
   level_slot x s b h = grind arith
 
 module _ (W : Script) (D : Side) where

@@ -78,7 +78,7 @@ module _ (W : Script) (D : Side) where
   over_once : (x : Joint W D) → x.over ≡ true → (slot W D x).over ≡ true
   over_once x e = rw e
 
-  over_later : (n k : ℕ) (j : Joint W D) → k ≤ n → (slots W D k j).over ≡ true → (slots W D n j).over ≡ true
+  pub over_later : (n k : ℕ) (j : Joint W D) → k ≤ n → (slots W D k j).over ≡ true → (slots W D n j).over ≡ true
   over_later zero k j h e = let z : k ≡ 0 = omega arith in subst (λ x. (slots W D x j).over ≡ true) z e
   over_later (suc n) k j h e = go (cases_lt n k) (λ g. over_later n k j g e)
     where

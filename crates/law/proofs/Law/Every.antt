@@ -245,3 +245,8 @@ module _ (W : Script) (D : Side) (left : W.Cursor → ℕ) (H : Hosts W) (Alike 
   every_use cs a s c q us h =
       let k = keeps us h (made W D H cs a s) 159999 (made_kept W D left H Alike Fits Rest cs a s c q) in
       law_at (uses W D left H (made W D H cs a s) us) k.0 k.1
+
+  -- the invariant there
+  pub every_stands : (cs : List (ℕ × ℕ)) (a : H.State) (s : D.S) → Clocks cs → Rest s → (us : List Step) → Held us → let x = uses W D left H (made W D H cs a s) us in
+      (n : ℕ) × Stands W D left Alike Fits Rest x.bus x.book.armed x.book.side x.book.turn x.watch n
+  every_stands cs a s c q us h = let k = keeps us h (made W D H cs a s) 159999 (made_kept W D left H Alike Fits Rest cs a s c q) in (k.0, k.1.stands)

@@ -6,7 +6,7 @@ use Rattle.master.specs.Symbols.{pulls_sda}
 use Rattle.law.proofs.Sides.{Side}
 use Rattle.law.proofs.Law.Machine.{taken, Bus}
 use Rattle.law.proofs.Law.Phases.{holds, early_lost, Cell, looks, cursors, idling, claimed, opened, lowered, fresh, settled, some, alive, Timed, advance, bus, free_bus, claimed_bus, opened_bus, low_bus, fresh_bus, settled_bus, carries}
-use Rattle.law.proofs.Law.Race.{at}
+use Rattle.law.proofs.Law.Race.{at, slots, opened as opens_at}
 use Rattle.law.proofs.Law.Uses.{Tasks, armed_if, arm_book, begins, Spell, spell, fallen, Watch, watch, arm_bus}
 use Rattle.law.proofs.Law.Cells.{cell_armeds, Holding, Within, marked, never, arm_cells, arm_looks, arm_armeds, arm_timed, arm_holding, arm_within, arm_some, arm_cursors, arm_marked, arm_advance}
 use Rattle.law.proofs.Law.Runs.{Run, spelled}
@@ -22,6 +22,14 @@ module _ (W : Script) where
     pub living : alive W cs ≡ true
     pub holding : Holding W cs
     pub within : Within W l cs
+
+module _ (W : Script) (D : Side) where
+  -- the letters so far and the side are those of the same slots, n of them at the most
+  pub record Spelt (l : List (Option W.Cursor)) (s0 : D.S) (n : ℕ) (sp : Spell) (s : D.S) : Type 0 where
+    pub slots_gone : ℕ
+    pub most : slots_gone ≤ n
+    pub letters : sp.letters ≡ spelled W D l s0 slots_gone
+    pub side : (slots W D slots_gone (opens_at W D l s0)).side ≡ s
 
 module _ (W : Script) (D : Side) (Fits : W.Task → Type 0) (Rest : D.S → Type 0) where
   -- what the book holds in a turn
@@ -55,7 +63,7 @@ module _ (W : Script) (D : Side) (left : W.Cursor → ℕ) (Alike : W.Cursor →
     -- c: the bit that counts at the next fall; after a repeated start none does
     high : (u : Bus W D) (os : Tasks W) (s0 : D.S) (l : Tasks W) (v : List Bool) (sp : Spell) (cs : List (Cell W)) (k r : ℕ) (s : D.S) (d : Bool) (c : Option Bool) (e n : ℕ) →
         u ≡ settled_bus W D d c cs s e → not (some W holds cs || D.pulls s) ≡ d → e ≤ 255 → n + 257 + e ≡ 513 * suc r →
-        (v ≡ marked W never l cs) × (fallen sp.latched sp.letters ≡ spell None (spelled W D (begins W l) (D.begin s0) (suc k))) → Crew W l os cs →
+        (v ≡ marked W never l cs) × (fallen sp.latched sp.letters ≡ spell None (spelled W D (begins W l) (D.begin s0) (suc k))) × Spelt W D (begins W l) (D.begin s0) (suc k) sp s → Crew W l os cs →
         Run W D left Alike (begins W l) (D.begin s0) (suc k) r (cursors W (advance W (unwrap_or c true) cs)) (taken D c s) → Fit W D Fits Rest os l s0 →
         Stands u os s0 (Some l) (watch (suc k) true v sp) n
 
@@ -124,5 +132,5 @@ module _ (W : Script) (D : Side) (left : W.Cursor → ℕ) (Alike : W.Cursor →
   arm_stands _ _ _ _ _ _ (high u os s0 l v sp cs k r s d c f n e j o z m g q y) =
       high (arm_bus W D u ws i) (arm_book os ws i) s0 l v sp (arm_cells W cs ws i) k r s d c f n
       (arm_phase W D true d true (settled W f) (λ m p. refl) cs s c 0 u ws i g.holding e) (ap (λ x. not (x || D.pulls s)) (arm_some W holds cs ws i) ∙ j) o z
-      (m.0 ∙ arm_marked W never l cs ws i, m.1) (arm_crew W l os cs ws i g) (subst (λ ps. Run W D left Alike (begins W l) (D.begin s0) (suc k) r ps (taken D c s))
+      (m.0 ∙ arm_marked W never l cs ws i, m.1, m.2) (arm_crew W l os cs ws i g) (subst (λ ps. Run W D left Alike (begins W l) (D.begin s0) (suc k) r ps (taken D c s))
       (sym (arm_advance W (unwrap_or c true) cs ws i)) q) (arm_fit os l s0 y)

@@ -25,7 +25,7 @@ use Rattle.law.proofs.Law.Order.{rank_inj}
 use Rattle.law.proofs.Law.Cells.{count_nobody, cell_armeds, Holding, Within, marked, never, armeds_stay, armeds_advance, holding_stay, holding_advance, within_stay, within_advance, holding_finished, armeds_claim, cursors_claim, timed_claim, holding_claim, within_claim, alive_claim, marked_claim, marked_more, marked_stay, marked_advance, note_at, unmarked, contender, tells_none}
 use Rattle.law.proofs.Law.Runs.{Run, spelled, spells, letter_bit, letter_again, letter_stop, leads, alive_at, some_left, run_shape, run_carries, run_bit, run_again}
 use Rattle.law.proofs.Law.Contests.{task_at, leader_in, loses_at, wins_least, least_wins, stop_side, stop_spells}
-use Rattle.law.proofs.Law.Stands.{Ready, Crew, Fit, Stands, idle, claims, begun, low, rose, high}
+use Rattle.law.proofs.Law.Stands.{Ready, Crew, Fit, Spelt, Stands, idle, claims, begun, low, rose, high}
 use Rattle.law.proofs.Law.Stops.{ending, tells_end, armeds_finished, counts_end, somebody_told, disarmed, tells_unmarked, outcome_at, told_at_stop}
 
 asked_to : (k : Option Bool) (h : ℕ) → h ≤ 255 → asked k h ≤ 255
@@ -326,7 +326,7 @@ module _ (W : Script) (D : Side) (left : W.Cursor → ℕ) (H : Hosts W) (Alike 
 
   tick_high : (hs : H.State) (os : Tasks W) (s0 : D.S) (l : Tasks W) (v : List Bool) (sp : Spell) (cs : List (Cell W)) (k r : ℕ) (s : D.S) (d : Bool) (c : Option Bool) (e n h : ℕ) → h ≤ 255 →
       not (some W holds cs || D.pulls s) ≡ d → e ≤ 255 → n + 257 + e ≡ 513 * suc r → (v ≡ marked W never l cs) × (fallen sp.latched sp.letters ≡ spell None
-      (spelled W D (begins W l) (D.begin s0) (suc k))) → Crew W l os cs →
+      (spelled W D (begins W l) (D.begin s0) (suc k))) × Spelt W D (begins W l) (D.begin s0) (suc k) sp s → Crew W l os cs →
       Run W D left Alike (begins W l) (D.begin s0) (suc k) r (cursors W (advance W (unwrap_or c true) cs)) (taken D c s) → Fit W D Fits Rest os l s0 →
       Real hs (settled_bus W D d c cs s e) os s0 (Some l) (watch (suc k) true v sp) n h
   tick_high hs os s0 l v sp cs k r s d c e n h hh j o z m g run y = go (any_scl W (looks W (settled W e) cs)) refl
@@ -372,7 +372,7 @@ module _ (W : Script) (D : Side) (left : W.Cursor → ℕ) (H : Hosts W) (Alike 
       (loses_here sp s0 l os v (early_lost b) (late_lost j) (late W j) (late_is W j) cs k (suc r) s m.0 g run (λ x a. late_new j x b (λ p. absurd (j2 p)) a)
       (λ x a p. late_behind j x a (ap rank p ∙ leads W cs g.living ∙ e)))
       (inl (omega arith))
-      (high u' os s0 l (marked W never l (stay W j cs)) sp (stay W j cs) k r s b (Some b) 1 (n - 2) refl d (omega arith) (omega arith) (refl, spells_on) (crew_stay W j l os cs e j4 g)
+      (high u' os s0 l (marked W never l (stay W j cs)) sp (stay W j cs) k r s b (Some b) 1 (n - 2) refl d (omega arith) (omega arith) (refl, spells_on, record { slots_gone = k; most = omega arith; letters = ap (λ x. x.letters) m.1; side = ap (λ x. x.side) run.runs }) (crew_stay W j l os cs e j4 g)
       (subst (λ x. Run W D left Alike (begins W l) (D.begin s0) (suc k) r (cursors W (advance W x (stay W j cs))) (D.bit s x)) c
       (run_bit W D left Alike laws (begins W l) (D.begin s0) k r cs s j run g.living e j1 j2)) y)))
     where
@@ -409,9 +409,19 @@ module _ (W : Script) (D : Side) (left : W.Cursor → ℕ) (H : Hosts W) (Alike 
         refl,
         ap (λ x. spell None (x.letters ++ (2 ∷ []))) m.1 ∙ ap (spell None) (spells W D left Alike (begins W l) (D.begin s0) k (suc r) (cursors W cs) s 2 run
             (letter_again D (lead W (cursors W cs)) s (leads W cs g.living ∙ e))),
+        record {
+          slots_gone = suc k;
+          most = omega arith;
+          letters = ap (λ x. x.letters ++ (2 ∷ [])) m.1 ∙ spells W D left Alike (begins W l) (D.begin s0) k (suc r) (cursors W cs) s 2 run
+              (letter_again D (lead W (cursors W cs)) s (leads W cs g.living ∙ e));
+          side = ap (λ x. x.side) (run_again W D left Alike laws (begins W l) (D.begin s0) k r cs s run g.living e).runs;
+        },
       ) (crew_stay W 2 l os cs e (omega arith) g)
       (subst (λ x. Run W D left Alike (begins W l) (D.begin s0) (suc k) r (cursors W (advance W x (stay W 2 cs))) (D.begin s)) c
       (run_again W D left Alike laws (begins W l) (D.begin s0) k r cs s run g.living e)) y))
+
+  none_at_stop : (x : Symbol) → late_lost 1 x ≡ false
+  none_at_stop x = grind arith
 
   -- the Stop
   fresh_stop : (hs : H.State) (os : Tasks W) (s0 : D.S) (l : Tasks W) (v : List Bool) (sp : Spell) (cs : List (Cell W)) (k r : ℕ) (s : D.S) (n h : ℕ) →
@@ -430,8 +440,8 @@ module _ (W : Script) (D : Side) (left : W.Cursor → ℕ) (H : Hosts W) (Alike 
             (λ j p a. y.armed j p (disarmed os ts j p a).0);
         tells = tells_end W cs ∙ told_is;
         counts = ap₂ (λ a b. count (disarm a b) + count b) g.armed (sym told_is) ∙ counts_end W cs g.holding ∙ ap count (sym g.armed);
-        loses = loses_here (spell None (sp.letters ++ (1 ∷ []))) s0 l os v (early_lost false) (late_lost 1) (late W 1) (late_is W 1) cs k r s m.0 g run
-            (λ x a. late_new 1 x false (λ p. absurd (omega arith)) a) (λ x a p. late_behind 1 x a (ap rank p ∙ leads W cs g.living ∙ e));
+        loses = λ i b. let w = note_at W (late W 1) cs i b in
+            let z : true ≡ false = sym (ap (is_lost W) w.2) ∙ (late_is W 1 (W.symbol w.0) w.0 ∙ none_at_stop (W.symbol w.0)) in cc;
         stops = λ st l' el i p a.
             let z : l ≡ l' = cc in
             subst (λ x. Stopped W D left x s0 v (tellings W (notes W (late W 1) cs)) i p) z (stopped i p (ap (λ x. at x i) z ∙ a));

@@ -266,7 +266,7 @@ module _ (W : Script) where
   turned w os t Fall = watch (suc w.falls) false w.marked (fallen w.spelling.latched w.spelling.letters)
   turned w os t (Rise x) = watch w.falls true w.marked (spell (Some x) w.spelling.letters)
   turned w os t Start = watch w.falls w.risen w.marked (restarted w.falls w.spelling)
-  turned w os t Stop = watch w.falls w.risen w.marked (spell None (w.spelling.letters ++ (1 ∷ [])))
+  turned w os t Stop = watch w.falls false w.marked (spell None (w.spelling.letters ++ (1 ∷ [])))
   turned w os t SteadyLow = w
 
   abbrev pub noted : Watch → List (VerdictModel W) → Watch

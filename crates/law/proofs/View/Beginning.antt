@@ -5,14 +5,15 @@ use Rattle.host.specs.Behaviours.{HostBehaviour}
 use Rattle.law.specs.Banks.{Bank, each, listed}
 use Rattle.master.specs.Serving.{Served, served_new}
 use Rattle.port.specs.Ports.{port_new, PortModel}
-use Rattle.law.specs.Laws.{Clocked, used, new_entry, placed_at, beginning, EveryUse}
+use Rattle.law.specs.Laws.{Clocked, Call, Use, used, new_entry, placed_at, beginning, EveryUse}
 use Rattle.master.specs.Scripts.{transfers}
 use Rattle.law.proofs.Alone.Alike.{Alike}
 use Rattle.law.proofs.Alone.Idle.{Idle}
 use Rattle.law.specs.Legal.{Legal}
 use Rattle.law.proofs.Alone.PortsSide.{unheld, ports_side, idle_ports}
 use Rattle.law.proofs.Alone.SlotsLeft.{slots_left}
-use Rattle.law.proofs.Law.Every.{every_use}
+use Rattle.law.proofs.Law.Every.{every_use, every_stands}
+use Rattle.law.proofs.Law.Stands.{Stands}
 use Rattle.law.proofs.Law.Uses.{Clocks, armeds, fresh_masters, book, watch, spell, made as law_made, Law as LawLaw}
 use Rattle.law.proofs.View.Booked.{meanings, tasks, Kept}
 use Rattle.law.proofs.View.Holding.{longest_hold}
@@ -83,3 +84,16 @@ module _ (hs : List HostBehaviour) (ds : List Behaviour) where
       (clocks_fit hs ms c) (record { devices = each (placed_at hs ds) ds ps; ports_are = refl }) in
       let as_law : used_as hs ds (used hs ds x cs) ≡ law_uses hs ds (law_made transfers (ports_side ds) (all_hosts hs) (listed clock_of hs ms) (hosts_of hs ms) (rest ps)) w.steps = w.as_law ∙ ap (λ y. law_uses hs ds y w.steps) (begins_as ms ps) in
       lawful hs ds (used hs ds x cs) w.good (subst (LawLaw transfers (ports_side ds) slots_left (all_hosts hs)) (sym as_law) (all w.steps w.held))
+
+  -- the invariant of the machine of the law, of a use
+  abbrev pub StandsAt : Use hs ds → Type 0
+  StandsAt y = let x = used_as hs ds y in (n : ℕ) × Stands transfers (ports_side ds) slots_left Alike Legal (Idle ds) x.bus x.book.armed x.book.side x.book.turn x.watch n
+
+  pub every_use_stands : (ms : Bank Served hs) (ps : Bank PortModel ds) → Clocked hs ms → (cs : List (Call hs ds)) → StandsAt (used hs ds (beginning hs ds ms ps) cs)
+  every_use_stands ms ps c cs =
+      let x = beginning hs ds ms ps in
+      let w = reached hs ds x cs (begins_good ms ps) in
+      let all = every_stands transfers (ports_side ds) slots_left (all_hosts hs) Alike Legal (Idle ds) laws (plays hs ds) (listed clock_of hs ms) (hosts_of hs ms) (rest ps)
+      (clocks_fit hs ms c) (record { devices = each (placed_at hs ds) ds ps; ports_are = refl }) w.steps w.held in
+      let as_law : used_as hs ds (used hs ds x cs) ≡ law_uses hs ds (law_made transfers (ports_side ds) (all_hosts hs) (listed clock_of hs ms) (hosts_of hs ms) (rest ps)) w.steps = w.as_law ∙ ap (λ y. law_uses hs ds y w.steps) (begins_as ms ps) in
+      subst (λ y. (n : ℕ) × Stands transfers (ports_side ds) slots_left Alike Legal (Idle ds) y.bus y.book.armed y.book.side y.book.turn y.watch n) (sym as_law) all

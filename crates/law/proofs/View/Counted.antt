@@ -62,12 +62,13 @@ module _ (hs : List HostBehaviour) (ds : List Behaviour) where
   pub record Counts (x y : Use hs ds) (t o m : ℕ) (r : Running hs ds) : Type 0 where
     pub outcomes_are : y.told + o ≡ x.told + r.outcomes
     pub ticks_are : m + t ≡ r.ticks
+    pub bus_is : y.bus ≡ r.bus
 
   either_counts : (v : Bool) (x y : Use hs ds) (t o m : ℕ) (q r : Running hs ds) → Counts x x t o 0 q → Counts x y t o m r → Counts x (cond v x y) t o (cond v 0 m) (cond v q r)
   either_counts v x y t o m q r h k = grind arith
 
   pub run_counts : (n t o z : ℕ) (a : ℕ → Holds ds) (x : Use hs ds) → Counts x (run_on hs ds n t a x) t o (ticks_of_run hs ds n t a x) (goes_on hs ds n a (runner x t o z))
-  run_counts zero t o z a x = record { outcomes_are = refl; ticks_are = omega arith }
+  run_counts zero t o z a x = record { outcomes_are = refl; ticks_are = omega arith; bus_is = refl }
   run_counts (suc n) t o z a x =
       let y = ticks_once hs ds x (a t) in
       let m = how_many (told_at hs ds x.bus) in
@@ -76,4 +77,4 @@ module _ (hs : List HostBehaviour) (ds : List Behaviour) where
       let p = more.outcomes_are in
       let q = more.ticks_are in
       either_counts (is_at_rest hs ds x.bus) x (run_on hs ds n (suc t) a y) t o (suc (ticks_of_run hs ds n (suc t) a y)) (runner x t o z) (goes_on hs ds n a (runner y (suc t) (o + m) b))
-      (record { outcomes_are = refl; ticks_are = omega arith }) (record { outcomes_are = omega arith; ticks_are = omega arith })
+      (record { outcomes_are = refl; ticks_are = omega arith; bus_is = refl }) (record { outcomes_are = omega arith; ticks_are = omega arith; bus_is = more.bus_is })

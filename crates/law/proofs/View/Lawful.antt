@@ -1,5 +1,5 @@
 -- The law over every use of a bus, from the law over its machine.
-use Rattle.std.proofs.Common.{◌≡◌, ℕ, zero, suc, ◌+◌, ◌<◌, ◌≤◌, Bool, true, false, ltb, List, [], ◌∷◌, map, get_or, is_some, Some, None, Ok, Option, sym, ap, ◌∙◌, subst, ap₂, arith}
+use Rattle.std.proofs.Common.{◌≡◌, ℕ, zero, suc, ◌+◌, ◌<◌, ◌≤◌, Bool, true, false, ltb, List, [], ◌∷◌, map, get_or, is_some, Some, None, Ok, Err, cond, refl, Option, Result, sym, ap, ◌∙◌, subst, ap₂, arith}
 use Rattle.std.proofs.lemmas.Bool.{le-ltb}
 use Rattle.std.specs.Option.{option_map}
 use Rattle.transfer.specs.Drafts.{TransferModel}
@@ -7,13 +7,15 @@ use Rattle.device.specs.Behaviours.{Behaviour}
 use Rattle.host.specs.Behaviours.{HostBehaviour}
 use Rattle.master.specs.declared.mark.Mark.TheVariants.{Quiet, Lost}
 use Rattle.wire.specs.declared.wire.Event.TheVariants.{Stop}
-use Rattle.law.specs.Banks.{listed, any_true}
+use Rattle.law.specs.Banks.{Bank, listed, any_true}
 use Rattle.law.specs.Books.{standing_of, Book, book_arm, contests, least}
-use Rattle.law.specs.Buses.{Holds, arm_at, levels_at, told_at}
+use Rattle.law.specs.Buses.{is_at_rest, BusModel, Holds, arm_at, levels_at, told_at}
 use Rattle.law.specs.Carrying.{Carried}
-use Rattle.law.specs.Laws.{Call, runs, Use, event_at, marks_of, watched, calls, used, run_on, ticks_of_run, ticks_of_call, ticks_of, armed_now, how_many_true, Point, Loses, Stopped, TickLaw, Law}
-use Rattle.master.specs.Masters.{quiet, lost}
-use Rattle.law.specs.Runs.{RunModel, goes_on, setting_out, reported, run_at}
+use Rattle.law.specs.Laws.{Call, runs, Use, ticks_once, one_by_one, event_at, marks_of, watched, calls, used, run_on, ticks_of_run, ticks_of_call, ticks_of, armed_now, how_many_true, Point, Loses, Stopped, TickLaw, Law}
+use Rattle.master.specs.Masters.{quiet, lost, VerdictModel, master_step}
+use Rattle.master.specs.Serving.{Served, mark_of, outcome_told, served_mark, served_told}
+use Rattle.wire.specs.declared.wire.Signal.{Signal}
+use Rattle.law.specs.Runs.{is_told, RunModel, Running, goes_on, setting_out, reported, run_at}
 use Rattle.master.specs.Scripts.{transfers}
 use Rattle.law.specs.Strings.{rank, first_or_same}
 use Rattle.wire.specs.Wires.{signal}
@@ -34,10 +36,17 @@ use Rattle.law.proofs.View.Seen.{masters_of, seen, levels_seen}
 use Rattle.law.proofs.View.Used.{used_as, Good, event_seen, told_seen, arm_answer_is}
 use Rattle.law.proofs.View.Watched.{noted_as, watched_as}
 
-legal_at : (l : List (Option TransferModel)) (i : ℕ) (t : TransferModel) → AllLegal l → at l i ≡ Some t → Legal t
+pub legal_at : (l : List (Option TransferModel)) (i : ℕ) (t : TransferModel) → AllLegal l → at l i ≡ Some t → Legal t
 legal_at [] i t k e = cc
 legal_at (o ∷ l) zero t k e = subst LegalIf e k.0
 legal_at (o ∷ l) (suc i) t k e = legal_at l i t k.1 e
+
+told_mark : (v : VerdictModel transfers) → is_told (mark_of v) ≡ is_some (outcome_told v)
+told_mark v = grind arith
+
+marks_told : (hs : List HostBehaviour) (ms : Bank Served hs) (s : Signal) → map is_told (listed (λ h. served_mark h s) hs ms) ≡ map is_some (listed (λ h. served_told h s) hs ms)
+marks_told [] ms s = refl
+marks_told (h ∷ hs) ms s = ap₂ ◌∷◌ (told_mark (master_step transfers ms.0.master s).1) (marks_told hs ms.1 s)
 
 turn_open : (v : Bool) (l m : List (Option TransferModel)) → turn_if v l ≡ Some m → (v ≡ true) × (l ≡ m)
 turn_open v l m h = grind arith
@@ -51,6 +60,15 @@ turn_is v l h = grind arith
 module _ (hs : List HostBehaviour) (ds : List Behaviour) where
   abbrev Lawful : Use hs ds → Type 0
   Lawful x = LawLaw transfers (ports_side ds) slots_left (all_hosts hs) (used_as hs ds x)
+
+  by_ticks : (v : Bool) (x y : Use hs ds) (m k : ℕ) (a : ℕ → Holds ds) → y ≡ used hs ds x (one_by_one hs ds m k a) → cond v x y ≡ used hs ds x (one_by_one hs ds (cond v 0 m) k a)
+  by_ticks true x y m k a e = refl
+  by_ticks false x y m k a e = e
+
+  run_ticks : (n k : ℕ) (a : ℕ → Holds ds) (x : Use hs ds) → run_on hs ds n k a x ≡ used hs ds x (one_by_one hs ds (ticks_of_run hs ds n k a x) k a)
+  run_ticks zero k a x = refl
+  run_ticks (suc n) k a x = let y = ticks_once hs ds x (a k) in
+      by_ticks (is_at_rest hs ds x.bus) x (run_on hs ds n (suc k) a y) (suc (ticks_of_run hs ds n (suc k) a y)) k a (run_ticks n (suc k) a y)
 
   module _ (x : Use hs ds) (g : Good hs ds x) (law : Lawful x) where
     abbrev b : Book hs ds
@@ -149,6 +167,7 @@ module _ (hs : List HostBehaviour) (ds : List Behaviour) where
     tick : TickLaw hs ds x
     tick = record {
       tells = told_same ∙ (law.ticking.tells ∙ (ap (λ e. law_tells transfers (ports_side ds) slots_left (all_hosts hs) (booked hs ds b) e) (sym (event_seen hs ds x.bus)) ∙ sym (tells_booked hs ds b (event_at hs ds x.bus))));
+      marks = marks_told hs x.bus.masters (signal x.bus.wire (levels_at hs ds x.bus));
       loses = loses;
       stops = stops;
       spells = spells;
@@ -169,6 +188,20 @@ module _ (hs : List HostBehaviour) (ds : List Behaviour) where
           rw few (let t : ticks_of_run hs ds n 0 a x ≡ end.ticks = omega arith in t ∙ ap (λ m. m.ticks) same),
         )
 
+    run_is_ticks : (n : ℕ) (a : ℕ → Holds ds) → calls hs ds x (runs n a) ≡ used hs ds x (one_by_one hs ds (ticks_of_call hs ds x (runs n a)) 0 a)
+    run_is_ticks n a = by_ticks (ltb 1000000 n) x (run_on hs ds n 0 a x) (ticks_of_run hs ds n 0 a x) 0 a (run_ticks n 0 a x)
+
+    abbrev run_end : ℕ → (ℕ → Holds ds) → Running hs ds
+    run_end n a = goes_on hs ds n a (setting_out hs ds x.bus)
+
+    leaves_either : (v : Bool) (y : Use hs ds) (r : Running hs ds) → y.bus ≡ r.bus →
+        (cond {A = Result RunModel ℕ × BusModel hs ds} v (Err 8, x.bus) (Ok (reported hs ds r), r.bus)).1 ≡ (cond v x y).bus
+    leaves_either true y r e = refl
+    leaves_either false y r e = sym e
+
+    run_leaves : (n : ℕ) (a : ℕ → Holds ds) → (run_at hs ds x.bus n a).1 ≡ (calls hs ds x (runs n a)).bus
+    run_leaves n a = leaves_either (ltb 1000000 n) (run_on hs ds n 0 a x) (run_end n a) (run_counts hs ds n 0 0 0 a x).bus_is
+
     lively : any_true (armed_now hs ds x) ≡ true → (cs : List (Call hs ds)) → 160000 ≤ ticks_of hs ds x cs → x.told < (used hs ds x cs).told
     lively e cs h =
         let w = reached hs ds x cs g in
@@ -177,4 +210,4 @@ module _ (hs : List HostBehaviour) (ds : List Behaviour) where
         subst (λ u. x.told < u.told) (sym w.as_law) (law.told some w.steps w.held long)
 
     pub lawful : Law hs ds x
-    lawful = record { point = point; tick = tick; arm = arm; run = run; lively = lively }
+    lawful = record { point = point; tick = tick; arm = arm; run = run; run_is_ticks = run_is_ticks; run_leaves = run_leaves; lively = lively }

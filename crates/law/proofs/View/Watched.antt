@@ -44,7 +44,7 @@ sees_as : (w : Watch) (os : List (Option TransferModel)) (l : List (Option Trans
 sees_as w os l Fall = falls_as w w.latch refl
 sees_as w os l (Rise b) = refl
 sees_as w os l Start = starts_as w w.falls
-sees_as w os l Stop = ap (λ l. watch w.falls w.risen w.marked (spell None l)) (ranks_append w.spelled (stop ∷ []))
+sees_as w os l Stop = ap (λ l. watch w.falls false w.marked (spell None l)) (ranks_append w.spelled (stop ∷ []))
 sees_as w os l SteadyHigh = refl
 sees_as w os l SteadyLow = refl
 
@@ -68,7 +68,7 @@ module _ (hs : List HostBehaviour) (ds : List Behaviour) where
   closed_as w b Fall k = falls_as w w.latch refl
   closed_as w b (Rise x) k = refl
   closed_as w b Start k = starts_as w w.falls
-  closed_as w b Stop k = ap (λ l. watch w.falls w.risen w.marked (spell None l)) (ranks_append w.spelled (stop ∷ []))
+  closed_as w b Stop k = ap (λ l. watch w.falls false w.marked (spell None l)) (ranks_append w.spelled (stop ∷ []))
   closed_as w b SteadyLow k = refl
 
   watched_parts : (w : Watch) (b : Book hs ds) (v : Bool) (e : Event) → Kept hs b.entries →

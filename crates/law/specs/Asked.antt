@@ -1,0 +1,175 @@
+-- What the ports asked of their devices in a turn, and what that has to do with strings and outcomes. Assumes nothing.
+use Rattle.std.specs.Prelude.{◌≡◌, ℕ, zero, suc, ◌+◌, ◌*◌, ◌<◌, Bool, true, false, cond, ◌&&◌, ◌⊎◌, List, [], ◌∷◌, ◌++◌, map, length, take as first, is_some, Some, None, Option, ◌==◌, nat_lt, slice_get, slice_index, slice_index_or}
+use Rattle.std.specs.Option.{option_to_list}
+use Rattle.transfer.specs.declared.leg.Direction.{Direction}
+use Rattle.transfer.specs.declared.leg.Direction.TheVariants.{Write}
+use Rattle.transfer.specs.declared.outcome.OutcomeKind.TheVariants.{Done}
+use Rattle.transfer.specs.Drafts.{TransferModel}
+use Rattle.transfer.specs.Legs.{BodyModel, writes, reads, LegModel, body_size}
+use Rattle.transfer.specs.Outcomes.{OutcomeModel}
+use Rattle.device.specs.Behaviours.{Behaviour}
+use Rattle.device.specs.Steps.{Step, select, put, take, finish}
+use Rattle.host.specs.Behaviours.{HostBehaviour}
+use Rattle.wire.specs.declared.wire.Event.TheVariants.{Fall, Stop}
+use Rattle.port.specs.Ports.{answers_to, PortModel}
+use Rattle.master.specs.Serving.{Served}
+use Rattle.law.specs.Banks.{Bank, listed}
+use Rattle.law.specs.Books.{contends_with}
+use Rattle.law.specs.Buses.{told_at}
+use Rattle.law.specs.Carrying.{Placed, joined, carried}
+use Rattle.law.specs.Facts.{write_leg, read_leg}
+use Rattle.law.specs.Strings.{Letter}
+use Rattle.law.specs.Laws.{Call, Use, event_at, watched, asked_then, beginning, used}
+
+-- a device's meaning, and the steps that were asked of it
+pub record Noted (b : Behaviour) : Type 0 where
+  pub meaning : b.Meaning
+  pub steps : List Step
+
+module _ (b : Behaviour) where
+  abbrev pub noting : Noted b → Step → b.Meaning → Noted b
+  noting m s n = record { meaning = n; steps = m.steps ++ (s ∷ []) }
+
+  -- the same device, which also notes each step with its answer
+  abbrev pub recorded : Behaviour
+  recorded = record {
+    Meaning = Noted b;
+    select = λ m d. let a = b.select m.meaning d in (a.0, noting m (select d a.0) a.1);
+    put = λ m x. let a = b.put m.meaning x in (a.0, noting m (put x a.0) a.1);
+    take = λ m. let a = b.take m.meaning in (a.0, noting m (take a.0) a.1);
+    finish = λ m. noting m finish (b.finish m.meaning);
+    holds = λ m h. b.holds m.meaning h;
+  }
+
+  -- with nothing noted yet
+  abbrev pub unnoted : Placed b → Placed recorded
+  unnoted d = record { address = d.address; meaning = record { meaning = d.meaning; steps = [] } }
+
+abbrev pub all_recorded : List Behaviour → List Behaviour
+all_recorded ds = map recorded ds
+
+abbrev pub all_unnoted : (ds : List Behaviour) → Bank Placed ds → Bank Placed (all_recorded ds)
+all_unnoted [] d = tt
+all_unnoted (b ∷ ds) d = (unnoted b d.0, all_unnoted ds d.1)
+
+abbrev pub all_noted : (ds : List Behaviour) → Bank Placed (all_recorded ds) → List (List Step)
+all_noted [] d = []
+all_noted (b ∷ ds) d = d.0.meaning.steps ∷ all_noted ds d.1
+
+-- the steps that are asked of each device where a transfer is carried alone
+abbrev pub steps_alone : (ds : List Behaviour) → TransferModel → Bank Placed ds → List (List Step)
+steps_alone ds t d = all_noted ds (carried (all_recorded ds) t (all_unnoted ds d)).devices
+
+-- leg number k of a transfer
+abbrev pub leg_of : TransferModel → ℕ → Option LegModel
+leg_of t zero = Some t.first
+leg_of t (suc zero) = t.second
+leg_of t (suc (suc k)) = None
+
+-- where the acknowledge of byte y of leg k stands in the string
+abbrev pub acknowledge_at : TransferModel → ℕ → ℕ → ℕ
+acknowledge_at t zero y = 9 * suc y + 8
+acknowledge_at t (suc k) y = 9 * suc (body_size t.first.body) + suc (9 * suc y + 8)
+
+-- selected for writing and given these bytes, each with a yes
+abbrev pub written_so : List ℕ → List Step
+written_so xs = select Write true ∷ map (λ x. put x true) xs
+
+abbrev pub EndsWith : List Step → List Step → Type 0
+EndsWith ss end = (front : List Step) × (ss ≡ front ++ end)
+
+-- of some port with this address the steps end so
+abbrev pub SomeEndsWith : List ℕ → List (List Step) → ℕ → List Step → Type 0
+SomeEndsWith [] rs a end = ⊥
+SomeEndsWith (o ∷ os) [] a end = ⊥
+SomeEndsWith (o ∷ os) (r ∷ rs) a end = ((answers_to o a ≡ true) × EndsWith r end) ⊎ SomeEndsWith os rs a end
+
+-- the steps up to the next select
+abbrev pub before_select : List Step → List Step
+before_select [] = []
+before_select (select r v ∷ ss) = []
+before_select (put x v ∷ ss) = put x v ∷ before_select ss
+before_select (take x ∷ ss) = take x ∷ before_select ss
+before_select (finish ∷ ss) = finish ∷ before_select ss
+
+-- what follows each select
+abbrev pub calls_of : List Step → List (List Step)
+calls_of [] = []
+calls_of (select r v ∷ ss) = before_select ss ∷ calls_of ss
+calls_of (put x v ∷ ss) = calls_of ss
+calls_of (take x ∷ ss) = calls_of ss
+calls_of (finish ∷ ss) = calls_of ss
+
+-- the bytes handed over in these steps
+abbrev pub handed : List Step → List ℕ
+handed [] = []
+handed (select r v ∷ ss) = handed ss
+handed (put x v ∷ ss) = handed ss
+handed (take x ∷ ss) = x ∷ handed ss
+handed (finish ∷ ss) = handed ss
+
+-- how often a port with address a is called before leg k
+abbrev pub called_before : TransferModel → ℕ → ℕ → ℕ
+called_before t k a = cond (nat_lt 0 k && answers_to t.first.address a) 1 0
+
+-- the bytes that each port's device handed over where it was called for the time n, counted from 0, at address a
+abbrev pub handed_over : ℕ → ℕ → List ℕ → List (List Step) → List (List ℕ)
+handed_over a n [] rs = []
+handed_over a n (o ∷ os) [] = []
+handed_over a n (o ∷ os) (r ∷ rs) = cond (answers_to o a) (handed (slice_index_or (calls_of r) n [])) [] ∷ handed_over a n os rs
+
+-- of some lists the items at y
+abbrev pub all_at : ℕ → List (List ℕ) → List ℕ
+all_at y [] = []
+all_at y (xs ∷ xss) = option_to_list (slice_get xs y) ++ all_at y xss
+
+abbrev pub body_reads : BodyModel → ℕ
+body_reads (writes xs) = 0
+body_reads (reads n) = n
+
+-- how many bytes are read before leg k
+abbrev pub read_before : TransferModel → ℕ → ℕ
+read_before t zero = 0
+read_before t (suc k) = body_reads t.first.body
+
+module _ (hs : List HostBehaviour) (ds : List Behaviour) where
+  abbrev pub addresses : Use hs ds → List ℕ
+  addresses x = listed (λ b p. p.address) ds x.bus.ports
+
+  -- master i contends for this transfer
+  abbrev pub Contends : Use hs ds → ℕ → TransferModel → Type 0
+  Contends x i t = slice_index_or (listed contends_with hs x.book.entries) i None ≡ Some t
+
+  -- it is not marked lost so far, or nobody else contends
+  abbrev pub StillIn : Use hs ds → ℕ → TransferModel → Type 0
+  StillIn x i t = Contends x i t × ((slice_index_or x.watch.marked i false ≡ false) ⊎ ((j : ℕ) (u : TransferModel) → Contends x j u → j ≡ i))
+
+  -- at the next fall a contender hears A for byte y of leg k, which writes the bytes xs to address a
+  pub record HearsA (x : Use hs ds) (t : TransferModel) (k a : ℕ) (xs : List ℕ) (y : ℕ) : Type 0 where
+    pub turn : x.book.turn ≡ true
+    pub fall : event_at hs ds x.bus ≡ Fall
+    pub leg : leg_of t k ≡ Some (write_leg a xs)
+    pub byte : y < length xs
+    pub so_far : List Letter
+    pub place : length so_far ≡ acknowledge_at t k y
+    pub acknowledge : (watched hs ds x.watch x.book Fall).spelled ≡ so_far ++ (Letter.zero ∷ [])
+
+  -- what holds of the steps asked in a turn
+  pub record AskedLaw (x : Use hs ds) : Type 0 where
+    -- a byte that is heard acknowledged has reached a device: a port with the leg's address selected its device in this leg
+    -- and put the bytes up to this one, and the device said yes each time
+    pub reached : (i : ℕ) (t : TransferModel) → StillIn x i t → (k a : ℕ) (xs : List ℕ) (y : ℕ) → HearsA x t k a xs y →
+        SomeEndsWith (addresses x) (asked_then hs ds x) a (written_so (first (suc y) xs))
+    -- a byte that a done outcome reports has the 1 bits that all had who handed one over for it
+    pub reported : (i : ℕ) (t : TransferModel) (o : OutcomeModel) → Contends x i t → slice_index_or (told_at hs ds x.bus) i None ≡ Some o → o.kind ≡ Done →
+        (k a n : ℕ) → leg_of t k ≡ Some (read_leg a n) → (y : ℕ) → y < n →
+        slice_index o.bytes (read_before t k + y) ≡ joined (all_at y (handed_over a (called_before t k a) (addresses x) (asked_then hs ds x)))
+    -- so it is the byte of the one device that did, if one alone did
+    pub alone : (x : ℕ) → x < 256 → joined (x ∷ []) ≡ x
+    -- at the stop of a turn the steps asked in it are those of a transfer that is told, carried alone: once, however many are told
+    pub once : event_at hs ds x.bus ≡ Stop → x.book.turn ≡ true → (i : ℕ) (t : TransferModel) → Contends x i t →
+        is_some (slice_index_or (told_at hs ds x.bus) i None) ≡ true → asked_then hs ds x ≡ steps_alone ds t x.book.devices
+
+  -- at every point of every use of a bus from its making
+  abbrev pub EveryAsked : Bank Served hs → Bank PortModel ds → Type 0
+  EveryAsked ms ps = (cs : List (Call hs ds)) → AskedLaw (used hs ds (beginning hs ds ms ps) cs)
