@@ -9,7 +9,7 @@ use Rattle.device.specs.RegisterFiles.{Registers, new_registers, register_file}
 use Rattle.law.specs.Banks.{Bank}
 use Rattle.law.specs.Books.{Standing, unarmed, armed, Entry, least, told_all, devices_after, leave_all}
 use Rattle.law.specs.Carrying.{Placed, Carried, carried}
-use Rattle.law.specs.Examples.{RefusedExamples, StringExamples, TurnExamples, WorkedExamples, two_hosts, open_book, Turn, Wins, placed, write, read_of, write_read, done, pointed_at, busy_registers, stored_at_3}
+use Rattle.law.specs.Examples.{RefusedExamples, StringExamples, TurnExamples, Exhibits, WorkedExamples, two_hosts, open_book, Turn, Wins, placed, write, read_of, write_read, done, pointed_at, busy_registers, stored_at_3}
 
 module _ (b : Behaviour) (m : b.Meaning) where
   -- both carried alone, who is told what, and the device after it
@@ -93,3 +93,7 @@ refusals =
 
 pub worked_examples : WorkedExamples
 worked_examples = record { refusals = refusals; strings = strings; turns = turns; queue = record { joined = refl; taken = refl } }
+
+pub exhibits : (f g : Transfer) → transfer_model f ≡ write_read (0x03 ∷ []) 1 → transfer_model g ≡ write (0x03 ∷ 0x80 ∷ []) →
+    Exhibits (write_read (0x03 ∷ []) 1) (write (0x03 ∷ 0x80 ∷ [])) (0 ∷ []) (pointed_at 4) f g
+exhibits f g e h = let wins = turns.restart_over_one f g e h in record { first_is = e; second_is = h; first_wins = wins.0; wins_as_second = wins.1 }

@@ -9,5 +9,6 @@ pub mod Used
 pub mod Reached
 pub mod Ranks
 pub mod Counted
+pub mod InTicks
 pub mod Lawful
 pub mod Beginning

@@ -172,6 +172,13 @@ abbrev pub Wins : TransferModel → TransferModel → List ℕ → Registers →
 Wins a b xs after = (f g : Transfer) → transfer_model f ≡ a → transfer_model g ≡ b →
     Turn register_file f g new_registers (done xs) None after unarmed armed × Turn register_file g f new_registers None (done xs) after armed unarmed
 
+-- two transfers of which the first wins so over the second
+pub record Exhibits (a b : TransferModel) (xs : List ℕ) (after : Registers) (f g : Transfer) : Type 0 where
+  pub first_is : transfer_model f ≡ a
+  pub second_is : transfer_model g ≡ b
+  pub first_wins : Turn register_file f g new_registers (done xs) None after unarmed armed
+  pub wins_as_second : Turn register_file g f new_registers None (done xs) after armed unarmed
+
 pub record TurnExamples : Type 0 where
   pub stop_over_one : Wins (write (0x03 ∷ [])) (write (0x03 ∷ 0x80 ∷ [])) [] (pointed_at 3)
   pub zero_over_stop : Wins (write (0x03 ∷ 0x00 ∷ [])) (write (0x03 ∷ [])) [] (pointed_at 4)

@@ -1,5 +1,5 @@
 -- The law over every use of a bus, in the words of turns, strings and the turn book. Assumes nothing.
-use Rattle.std.specs.Prelude.{◌≡◌, ℕ, zero, suc, ◌+◌, ◌<◌, ◌≤◌, Bool, true, false, cond, not, ◌||◌, ◌↔◌, List, [], ◌∷◌, ◌++◌, map, length, get_or, is_some, is_ok, Some, None, Ok, Option, Result, nat_lt, slice_index_or}
+use Rattle.std.specs.Prelude.{◌≡◌, ℕ, zero, suc, ◌+◌, ◌<◌, ◌≤◌, Bool, true, false, cond, not, ◌||◌, ◌↔◌, List, [], ◌∷◌, ◌++◌, map, replicate, length, get_or, is_some, is_ok, Some, None, Ok, Option, Result, nat_lt, slice_index_or}
 use Rattle.std.specs.List.{fold, count_by}
 use Rattle.device.specs.Behaviours.{Behaviour}
 use Rattle.device.specs.Steps.{Step}
@@ -10,7 +10,7 @@ use Rattle.wire.specs.declared.wire.Event.{Event}
 use Rattle.wire.specs.declared.wire.Event.TheVariants.{Rise, Fall, Start, Stop, SteadyHigh, SteadyLow}
 use Rattle.law.specs.Banks.{Bank, each, listed, Every, any_true}
 use Rattle.law.specs.Books.{unarmed, Entry, standing_of, Book, book_arm, book_tells, book_after, contests, least}
-use Rattle.law.specs.Buses.{BusModel, Holds, made, arm_at, levels_at, tick_at, told_at, is_at_rest}
+use Rattle.law.specs.Buses.{BusModel, Holds, over, made, arm_at, levels_at, tick_at, told_at, is_at_rest}
 use Rattle.master.specs.Serving.{Served, served_armed, served_mark, served_pulls}
 use Rattle.law.specs.Carrying.{Placed, Carried}
 use Rattle.port.specs.Ports.{PortModel}
@@ -207,7 +207,9 @@ module _ (hs : List HostBehaviour) (ds : List Behaviour) where
   -- what holds of the next tick
   pub record TickLaw (x : Use) : Type 0 where
     pub tells : told_at hs ds x.bus ≡ book_tells hs ds x.book (event_at x.bus)
+    -- it shows the levels and the event of which this law speaks, and the marks, over those of masters that there are not;
     -- a mark tells of an outcome exactly where one is told
+    pub shows : (a : Holds ds) → (tick_at hs ds x.bus a).0 ≡ record { levels = levels_at hs ds x.bus; event = event_at x.bus; marks = over (marks_of x.bus) (replicate 8 Quiet) }
     pub marks : map is_told (marks_of x.bus) ≡ map is_some (told_at hs ds x.bus)
     pub loses : (i : ℕ) → slice_index_or (marks_of x.bus) i Quiet ≡ Lost → Loses x i
     pub stops : event_at x.bus ≡ Stop → x.book.turn ≡ true → (i : ℕ) (own : Carried ds) → slice_index_or (contests hs ds x.book) i None ≡ Some own → Stopped x i own
@@ -234,6 +236,16 @@ module _ (hs : List HostBehaviour) (ds : List Behaviour) where
   one_by_one zero k a = []
   one_by_one (suc n) k a = ticks (a k) ∷ one_by_one n (suc k) a
 
+  abbrev pub call_in_ticks : Use → Call → List Call
+  call_in_ticks x (arms n) = arms n ∷ []
+  call_in_ticks x (ticks a) = ticks a ∷ []
+  call_in_ticks x (runs n a) = one_by_one (ticks_of_call x (runs n a)) 0 a
+
+  -- the same calls, with the ticks of each run in its place
+  abbrev pub in_ticks : Use → List Call → List Call
+  in_ticks x [] = []
+  in_ticks x (c ∷ cs) = call_in_ticks x c ++ in_ticks (calls x c) cs
+
   pub record Law (x : Use) : Type 0 where
     pub point : Point x
     pub tick : TickLaw x
@@ -242,10 +254,10 @@ module _ (hs : List HostBehaviour) (ds : List Behaviour) where
     -- a run counts the outcomes told in it
     pub run : (n : ℕ) (a : ℕ → Holds ds) → n ≤ 1000000 → (r : RunModel) → (run_at hs ds x.bus n a).0 ≡ Ok r →
         ((calls x (runs n a)).told ≡ x.told + r.outcomes) × (ticks_of_call x (runs n a) ≡ r.ticks)
-    -- it is the ticks that it makes, so the law holds between any two of them
-    pub run_is_ticks : (n : ℕ) (a : ℕ → Holds ds) → calls x (runs n a) ≡ used x (one_by_one (ticks_of_call x (runs n a)) 0 a)
-    -- and leaves the bus of the use, also where it is refused
+    -- and leaves the bus of this use, also where it is refused
     pub run_leaves : (n : ℕ) (a : ℕ → Holds ds) → (run_at hs ds x.bus n a).1 ≡ (calls x (runs n a)).bus
+    -- a run is its ticks, so that the law holds between any two of them, and what is said of many ticks may begin and end there
+    pub runs_are_ticks : (cs : List Call) → (used x cs ≡ used x (in_ticks x cs)) × (ticks_of x cs ≡ ticks_of x (in_ticks x cs))
     -- any 160,000 ticks from a point with a master armed tell an outcome, whatever calls they come from
     pub lively : any_true (armed_now x) ≡ true → (cs : List Call) → 160000 ≤ ticks_of x cs → x.told < (used x cs).told
 

@@ -4,5 +4,5 @@
 mod promises;
 mod tick;
 
-pub use promises::worked_examples;
+pub use promises::{restart_over_one, worked_examples};
 pub use tick::Tick;

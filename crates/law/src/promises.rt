@@ -1,7 +1,24 @@
 // What is proved of the definitions, each on the contract of a function.
-ghost use Rattle.law.specs.Examples.{WorkedExamples};
+ghost use Rattle.std.specs.Prelude.{◌≡◌, Ok, [], ◌∷◌};
+ghost use Rattle.law.specs.Examples.{WorkedExamples, Exhibits, write, write_read, pointed_at};
+
+use transfer::{Address, Draft, Refusal, Transfer};
 
 // The worked examples of the refusals, of a transfer carried alone, letter by letter, and of the turn book.
 pub fn worked_examples()
     ensures { WorkedExamples }
 {}
+
+// The transfers of the example in which a repeated start wins over a 1, made by the calls of a draft.
+pub fn restart_over_one() -> Result<(Transfer, Transfer), Refusal>
+    ensures { (f : Transfer) × (g : Transfer) × (result ≡ Ok (f, g)) × Exhibits (write_read (3 ∷ []) 1) (write (3 ∷ 128 ∷ [])) (0 ∷ []) (pointed_at 4) f g }
+{
+    let registers = Address::new(0x50)?;
+    let mut restarted = Draft::new(registers);
+    restarted.write(&[0x03])?;
+    restarted.second_leg(registers)?;
+    restarted.read(1)?;
+    let mut high = Draft::new(registers);
+    high.write(&[0x03, 0x80])?;
+    Ok((restarted.seal(), high.seal()))
+}

@@ -11,7 +11,7 @@ use Rattle.law.specs.Banks.{Bank, listed, any_true}
 use Rattle.law.specs.Books.{standing_of, Book, book_arm, contests, least}
 use Rattle.law.specs.Buses.{is_at_rest, BusModel, Holds, arm_at, levels_at, told_at}
 use Rattle.law.specs.Carrying.{Carried}
-use Rattle.law.specs.Laws.{Call, runs, Use, ticks_once, one_by_one, event_at, marks_of, watched, calls, used, run_on, ticks_of_run, ticks_of_call, ticks_of, armed_now, how_many_true, Point, Loses, Stopped, TickLaw, Law}
+use Rattle.law.specs.Laws.{Call, runs, Use, event_at, marks_of, watched, calls, used, run_on, ticks_of_run, ticks_of_call, ticks_of, armed_now, how_many_true, Point, Loses, Stopped, TickLaw, Law}
 use Rattle.master.specs.Masters.{quiet, lost, VerdictModel, master_step}
 use Rattle.master.specs.Serving.{Served, mark_of, outcome_told, served_mark, served_told}
 use Rattle.wire.specs.declared.wire.Signal.{Signal}
@@ -30,6 +30,7 @@ use Rattle.law.proofs.View.Booked.{booked, tasks, contenders, contenders_legal, 
 use Rattle.law.proofs.View.Carries.{LegalIf, AllLegal, carry, lead, lead_legal, least_is, lexb_is, text, text_is}
 use Rattle.law.proofs.View.Counted.{somes, count_somes, any_somes, masters_armed, entries_armed, pulls_none, lost_at, placed_back, run_counts}
 use Rattle.law.proofs.View.Hosting.{all_hosts}
+use Rattle.law.proofs.View.InTicks.{runs_are_ticks}
 use Rattle.law.proofs.View.Ranks.{first_difference, carried_from, carried_at}
 use Rattle.law.proofs.View.Reached.{reached}
 use Rattle.law.proofs.View.Seen.{masters_of, seen, levels_seen}
@@ -60,15 +61,6 @@ turn_is v l h = grind arith
 module _ (hs : List HostBehaviour) (ds : List Behaviour) where
   abbrev Lawful : Use hs ds → Type 0
   Lawful x = LawLaw transfers (ports_side ds) slots_left (all_hosts hs) (used_as hs ds x)
-
-  by_ticks : (v : Bool) (x y : Use hs ds) (m k : ℕ) (a : ℕ → Holds ds) → y ≡ used hs ds x (one_by_one hs ds m k a) → cond v x y ≡ used hs ds x (one_by_one hs ds (cond v 0 m) k a)
-  by_ticks true x y m k a e = refl
-  by_ticks false x y m k a e = e
-
-  run_ticks : (n k : ℕ) (a : ℕ → Holds ds) (x : Use hs ds) → run_on hs ds n k a x ≡ used hs ds x (one_by_one hs ds (ticks_of_run hs ds n k a x) k a)
-  run_ticks zero k a x = refl
-  run_ticks (suc n) k a x = let y = ticks_once hs ds x (a k) in
-      by_ticks (is_at_rest hs ds x.bus) x (run_on hs ds n (suc k) a y) (suc (ticks_of_run hs ds n (suc k) a y)) k a (run_ticks n (suc k) a y)
 
   module _ (x : Use hs ds) (g : Good hs ds x) (law : Lawful x) where
     abbrev b : Book hs ds
@@ -167,6 +159,7 @@ module _ (hs : List HostBehaviour) (ds : List Behaviour) where
     tick : TickLaw hs ds x
     tick = record {
       tells = told_same ∙ (law.ticking.tells ∙ (ap (λ e. law_tells transfers (ports_side ds) slots_left (all_hosts hs) (booked hs ds b) e) (sym (event_seen hs ds x.bus)) ∙ sym (tells_booked hs ds b (event_at hs ds x.bus))));
+      shows = λ a. refl;
       marks = marks_told hs x.bus.masters (signal x.bus.wire (levels_at hs ds x.bus));
       loses = loses;
       stops = stops;
@@ -188,9 +181,6 @@ module _ (hs : List HostBehaviour) (ds : List Behaviour) where
           rw few (let t : ticks_of_run hs ds n 0 a x ≡ end.ticks = omega arith in t ∙ ap (λ m. m.ticks) same),
         )
 
-    run_is_ticks : (n : ℕ) (a : ℕ → Holds ds) → calls hs ds x (runs n a) ≡ used hs ds x (one_by_one hs ds (ticks_of_call hs ds x (runs n a)) 0 a)
-    run_is_ticks n a = by_ticks (ltb 1000000 n) x (run_on hs ds n 0 a x) (ticks_of_run hs ds n 0 a x) 0 a (run_ticks n 0 a x)
-
     abbrev run_end : ℕ → (ℕ → Holds ds) → Running hs ds
     run_end n a = goes_on hs ds n a (setting_out hs ds x.bus)
 
@@ -210,4 +200,4 @@ module _ (hs : List HostBehaviour) (ds : List Behaviour) where
         subst (λ u. x.told < u.told) (sym w.as_law) (law.told some w.steps w.held long)
 
     pub lawful : Law hs ds x
-    lawful = record { point = point; tick = tick; arm = arm; run = run; run_is_ticks = run_is_ticks; run_leaves = run_leaves; lively = lively }
+    lawful = record { point = point; tick = tick; arm = arm; run = run; run_leaves = run_leaves; runs_are_ticks = runs_are_ticks hs ds x; lively = lively }
