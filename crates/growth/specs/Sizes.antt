@@ -1,11 +1,19 @@
--- The buses that are measured: their sizes, and their parts. Assumes nothing.
-use Rattle.std.specs.Prelude.{◌≡◌, ℕ, Bool, ◌||◌, ◌==◌}
+-- The buses that are measured: their sizes, and their parts before a master is armed. Assumes nothing.
+use Rattle.std.specs.Prelude.{◌≡◌, ℕ, zero, suc, Bool, true, false, ◌||◌, List, replicate, None, Some, Ok, Option, Result, ◌==◌}
+use Rattle.transfer.specs.declared.draft.Transfer.{Transfer}
+use Rattle.transfer.specs.declared.refusal.Refusal.{Refusal}
+use Rattle.transfer.specs.Drafts.{transfer_model}
+use Rattle.device.specs.Behaviours.{Behaviour}
 use Rattle.device.specs.RegisterFiles.{register_file, new_registers}
+use Rattle.host.specs.Behaviours.{HostBehaviour}
 use Rattle.host.specs.PollHosts.{poll_host}
+use Rattle.law.specs.Banks.{Bank}
+use Rattle.law.specs.Buses.{BusModel, made}
 use Rattle.master.specs.Masters.{new_master}
 use Rattle.master.specs.Scripts.{transfers}
 use Rattle.master.specs.Serving.{Served}
 use Rattle.port.specs.Ports.{PortModel, new_port}
+use Rattle.workload.specs.Works.{register_write, Worked}
 
 abbrev pub is_masters : ℕ → Bool
 is_masters n = n == 1 || n == 2 || n == 4 || n == 8
@@ -13,9 +21,46 @@ is_masters n = n == 1 || n == 2 || n == 4 || n == 8
 abbrev pub is_ports : ℕ → Bool
 is_ports n = n == 1 || n == 4 || n == 16
 
--- a new master with these clock counts
-abbrev pub WithClock : ℕ → ℕ → Served poll_host → Type 0
-WithClock low high x = x.master ≡ new_master transfers low high
+-- so many masters, each with a poll host, and so many register files
+abbrev pub hosts : ℕ → List HostBehaviour
+hosts n = replicate n poll_host
+
+abbrev pub devices : ℕ → List Behaviour
+devices n = replicate n register_file
+
+-- a new master at this clock, for ever with a write of 3 and the byte to the register file at 80
+abbrev pub Writes : ℕ → ℕ → ℕ → Served poll_host → Type 0
+Writes low high byte x = (t : Transfer) × (transfer_model t ≡ register_write 80 byte) ×
+    (x ≡ record { master = new_master transfers low high; meaning = record { transfer = t; mask = 255; met = false; last = None } })
+
+abbrev pub WritesQuick : Served poll_host → Type 0
+WritesQuick x = Writes 1 1 18 x
+
+abbrev pub WritesSlow : Served poll_host → Type 0
+WritesSlow x = Writes 2 1 16 x
+
+-- by turns a quick and a slow one
+abbrev pub AtOdds : Bool → (n : ℕ) → Bank Served (hosts n) → Type 0
+AtOdds quick zero b = Unit {0}
+AtOdds true (suc n) b = WritesQuick b.0 × AtOdds false n b.1
+AtOdds false (suc n) b = WritesSlow b.0 × AtOdds true n b.1
 
 abbrev pub file_at : ℕ → PortModel register_file
 file_at address = new_port register_file address new_registers
+
+-- register files at this address and those after it
+abbrev pub files : ℕ → (n : ℕ) → Bank PortModel (devices n)
+files address zero = tt
+files address (suc n) = (file_at address, files (suc address) n)
+
+-- the outcomes that so many ticks told, with these masters and so many register files; none where there is no bus of this size
+abbrev pub MeasuredWith : (hs : List HostBehaviour) → Bank Served hs → ℕ → ℕ → ℕ → Result (Option ℕ) Refusal → Type 0
+MeasuredWith hs b masters ports ticks r =
+    (is_ports ports ≡ false → r ≡ Ok None) ×
+    (is_ports ports ≡ true → (v : BusModel hs (devices ports)) × (count : ℕ) ×
+    Worked hs (devices ports) masters ticks (made hs (devices ports) b (files 80 ports)) count v × (r ≡ Ok (Some count)))
+
+abbrev pub Measured : ℕ → ℕ → ℕ → Result (Option ℕ) Refusal → Type 0
+Measured masters ports ticks r =
+    (is_masters masters ≡ false → r ≡ Ok None) ×
+    (is_masters masters ≡ true → (b : Bank Served (hosts masters)) × AtOdds true masters b × MeasuredWith (hosts masters) b masters ports ticks r)

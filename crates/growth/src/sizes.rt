@@ -1,6 +1,9 @@
 // A bus of each size.
-ghost use Rattle.std.specs.Prelude.{◌≡◌, ◌≤◌, ◌&&◌, length, is_some, IfOk};
-ghost use Rattle.growth.specs.Sizes.{is_masters, is_ports};
+ghost use Rattle.std.specs.Prelude.{◌≤◌, length};
+ghost use Rattle.exchange.specs.Parts.{bus_model};
+ghost use Rattle.law.specs.Buses.{BusModel};
+ghost use Rattle.workload.specs.Works.{Worked};
+ghost use Rattle.growth.specs.Sizes.{MeasuredWith, Measured};
 
 use crate::banks::{FIRST, file, four, quick, two};
 use exchange::{Bus, End, Masters, Ports};
@@ -14,7 +17,9 @@ pub struct Work {
     pub ports: u8,
 }
 
-fn count<M: Masters + Drop, P: Ports + Drop>(work: Work, mut bus: Bus<M, P>) -> u64 {
+fn count<M: Masters + Drop, P: Ports + Drop>(work: Work, mut bus: Bus<M, P>) -> u64
+    ensures { (v : BusModel M.Masters.hosts P.Ports.devices) × Worked M.Masters.hosts P.Ports.devices work.masters work.ticks (bus_model bus) result v }
+{
     let count = count_outcomes(&mut bus, usize::from(work.masters), work.ticks);
     let _ = bus.close();
     count
@@ -24,7 +29,7 @@ fn count<M: Masters + Drop, P: Ports + Drop>(work: Work, mut bus: Bus<M, P>) -> 
 fn with_ports<M: Masters + Drop>(work: Work, masters: M) -> Result<Option<u64>, Refusal>
     requires some_master { 1 ≤ length M.Masters.hosts }
     requires few_masters { length M.Masters.hosts ≤ 8 }
-    ensures { IfOk result (λ count. is_some count ≡ is_ports work.ports) }
+    ensures { MeasuredWith M.Masters.hosts (M.Masters.stand masters) work.masters work.ports work.ticks result }
 {
     let count = match work.ports {
         1 => count(work, Bus::new(masters, (file(FIRST)?, End))),
@@ -40,7 +45,7 @@ fn with_ports<M: Masters + Drop>(work: Work, masters: M) -> Result<Option<u64>, 
 
 // None where there is no bus of this size.
 pub fn measure(work: Work) -> Result<Option<u64>, Refusal>
-    ensures { IfOk result (λ count. is_some count ≡ (is_masters work.masters && is_ports work.ports)) }
+    ensures { Measured work.masters work.ports work.ticks result }
 {
     match work.masters {
         1 => with_ports(work, (quick()?, End)),

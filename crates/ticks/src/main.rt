@@ -1,6 +1,8 @@
 // Ticks a bus of two masters for ever at odds, as often as standard input says, and counts the outcomes.
 #![tactic(auto)]
 
+ghost use Rattle.ticks.specs.Setups.{Measured};
+
 use parts::{Clocks, pair_bus};
 use transfer::{Address, ClockPair, Refusal};
 use workload::{count_outcomes, writer};
@@ -9,7 +11,9 @@ const MASTERS: usize = 2;
 
 const REGISTERS: u32 = 0x50;
 
-fn measure(ticks: u64) -> Result<u64, Refusal> {
+fn measure(ticks: u64) -> Result<u64, Refusal>
+    ensures { Measured ticks result }
+{
     let registers = Address::new(REGISTERS)?;
     let clocks = Clocks {
         first: ClockPair::new(1, 1)?,
