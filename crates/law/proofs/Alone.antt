@@ -15,3 +15,5 @@ pub mod Told
 pub mod StringLaws
 pub mod ByteLaws
 pub mod Idle
+pub mod Acknowledged
+pub mod Reached
