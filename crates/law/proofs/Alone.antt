@@ -16,4 +16,5 @@ pub mod StringLaws
 pub mod ByteLaws
 pub mod Idle
 pub mod Acknowledged
+pub mod Noted
 pub mod Reached
