@@ -18,3 +18,4 @@ pub mod Idle
 pub mod Acknowledged
 pub mod Noted
 pub mod Reached
+pub mod HandedOver

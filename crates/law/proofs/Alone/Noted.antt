@@ -1,15 +1,15 @@
 -- What a device that notes its steps notes in a leg: a select and what follows it if its port matches, and otherwise nothing.
-use Rattle.std.proofs.Common.{◌≡◌, ℕ, zero, suc, ◌+◌, Bool, true, false, cond, List, [], ◌∷◌, ◌++◌, length, get_or, sym, refl, ap, ◌∙◌, subst, append-nil, append_assoc, arith}
+use Rattle.std.proofs.Common.{◌≡◌, ℕ, zero, suc, Bool, true, false, cond, List, [], ◌∷◌, ◌++◌, length, get_or, sym, refl, ap, ◌∙◌, subst, append-nil, append_assoc}
 use Rattle.transfer.specs.declared.leg.Direction.{Direction}
 use Rattle.transfer.specs.declared.leg.Direction.TheVariants.{Read}
 use Rattle.transfer.specs.declared.outcome.OutcomeKind.TheVariants.{NoAnswer, Refused}
-use Rattle.transfer.specs.Legs.{BodyModel, writes, reads, LegModel, body_direction}
+use Rattle.transfer.specs.Legs.{BodyModel, writes, reads, body_direction}
 use Rattle.device.specs.Behaviours.{Behaviour}
 use Rattle.device.specs.Steps.{Step, select, put, take, finish}
 use Rattle.port.specs.Ports.{answers_to}
 use Rattle.law.specs.Asked.{Noted, recorded, all_recorded, before_select, calls_of, handed}
 use Rattle.law.specs.Banks.{Bank, each}
-use Rattle.law.specs.Carrying.{Placed, Taking, taking, selected, put_to, taken_from, settled, call_byte, Passed, ends, somebody, written, read, passed_body, passed}
+use Rattle.law.specs.Carrying.{Placed, Taking, taking, selected, put_to, taken_from, settled, call_byte, ends, somebody, written, read, passed_body, passed}
 use Rattle.law.proofs.Alone.ByteLaws.{took}
 use Rattle.law.proofs.Alone.Phases.{device_in_leg, called_for, put_to_all}
 
@@ -68,8 +68,14 @@ Since true hs ks ls = (r : Direction) × (v : Bool) × (ms : List Step) × NoSel
 Since false hs ks ls = (hs ≡ []) × (ls ≡ ks)
 
 since_step : (s : Step) (hs : List ℕ) (ks ls : List Step) → NoSelect (s ∷ []) → Since true hs ks ls → Since true (hs ++ handed (s ∷ [])) ks (ls ++ (s ∷ []))
-since_step s hs ks ls n h = (h.0, h.1, h.2 ++ (s ∷ []), one_step h.2 s h.3 n, handed_on h.2 (s ∷ []) ∙ ap (λ l. l ++ handed (s ∷ [])) h.4,
-    ap (λ l. l ++ (s ∷ [])) h.5 ∙ append_assoc ks (select h.0 h.1 ∷ h.2) (s ∷ []))
+since_step s hs ks ls n h = (
+  h.0,
+  h.1,
+  h.2 ++ (s ∷ []),
+  one_step h.2 s h.3 n,
+  handed_on h.2 (s ∷ []) ∙ ap (λ l. l ++ handed (s ∷ [])) h.4,
+  ap (λ l. l ++ (s ∷ [])) h.5 ∙ append_assoc ks (select h.0 h.1 ∷ h.2) (s ∷ []),
+)
 
 -- the calls of a record after a leg: one more, if the port matches
 pub record Calls (v : Bool) (hs : List ℕ) (ks ls : List Step) : Type 0 where
@@ -149,7 +155,7 @@ together_first : (G : Behaviour → Type 0) (S : (b : Behaviour) → Placed (rec
 together_first G S g f [] d = tt
 together_first G S g f (b ∷ ds) d = (f b d.0, together_first G S g f ds d.1)
 
-together_still : (F : Behaviour → Type 0) (R S : (b : Behaviour) → Placed (recorded b) → F (recorded b) → Type 0) → ((b : Behaviour) (d : Placed (recorded b)) (p : F (recorded b)) → R b d p → S b d p) →
+pub together_still : (F : Behaviour → Type 0) (R S : (b : Behaviour) → Placed (recorded b) → F (recorded b) → Type 0) → ((b : Behaviour) (d : Placed (recorded b)) (p : F (recorded b)) → R b d p → S b d p) →
     (ds : List Behaviour) (d : Bank Placed (all_recorded ds)) (e : Bank F (all_recorded ds)) → Together F R ds d e → Together F S ds d e
 together_still F R S f [] d e h = tt
 together_still F R S f (b ∷ ds) d e h = (f b d.0 e.0 h.0, together_still F R S f ds d.1 e.1 h.1)
