@@ -175,12 +175,13 @@ module _ (ds : List Behaviour) (d : Bank Placed ds) (a n y : ℕ) (h : y < n) wh
   second_told w (NoAnswer p) e g = let r = passed rs 0 w new in let z = sym e ∙ (named_done rs r.kind r.bytes g).0 in cc
   second_told w (Refused p) e g = let r = passed rs 0 w new in let z = sym e ∙ (named_done rs r.kind r.bytes g).0 in cc
 
-  pub reported_alone : (t : TransferModel) (k : ℕ) → (carried rs t new).outcome.kind ≡ Done → leg_of t k ≡ Some (read_leg a n) →
-      get_or (carried rs t new).outcome.bytes (read_before t k + y) 0 ≡ joined (all_at y (handed_over a (called_before t k a) (listed (λ b p. p.address) ds d) (steps_alone ds t d)))
-  reported_alone t zero g e = let z : t.first ≡ read_leg a n = cc in let p : 0 + y ≡ y = omega arith in
-      subst (λ w. let c = carried rs (record { first = w; second = t.second }) new in c.outcome.kind ≡ Done → get_or c.outcome.bytes (0 + y) 0 ≡ By 0 c.devices)
-      (sym z) (λ f. let c = carried rs (record { first = read_leg a n; second = t.second }) new in ap (λ m. get_or c.outcome.bytes m 0) p ∙ first_told t.second (passed rs 0 (read_leg a n) new).kind refl f) g
-  reported_alone t (suc zero) g e =
-      subst (λ o. let c = carried rs (record { first = t.first; second = o }) new in c.outcome.kind ≡ Done → get_or c.outcome.bytes (body_reads t.first.body + y) 0 ≡ By (cond (answers_to t.first.address a) 1 0) c.devices)
-      (sym e) (λ f. second_told t.first (passed rs 0 t.first new).kind refl f) g
-  reported_alone t (suc (suc k)) g e = cc
+-- of a transfer that is done
+pub reported_alone : (ds : List Behaviour) (t : TransferModel) (d : Bank Placed ds) (k a n y : ℕ) → (carried (all_recorded ds) t (all_unnoted ds d)).outcome.kind ≡ Done → leg_of t k ≡ Some (read_leg a n) → y < n →
+    get_or (carried (all_recorded ds) t (all_unnoted ds d)).outcome.bytes (read_before t k + y) 0 ≡ joined (all_at y (handed_over a (called_before t k a) (listed (λ b p. p.address) ds d) (steps_alone ds t d)))
+reported_alone ds t d zero a n y g e h = let z : t.first ≡ read_leg a n = cc in let p : 0 + y ≡ y = omega arith in let rs = all_recorded ds in let new = all_unnoted ds d in
+    subst (λ w. let c = carried rs (record { first = w; second = t.second }) new in c.outcome.kind ≡ Done → get_or c.outcome.bytes (0 + y) 0 ≡ By ds d a n y h 0 c.devices)
+    (sym z) (λ f. let c = carried rs (record { first = read_leg a n; second = t.second }) new in ap (λ m. get_or c.outcome.bytes m 0) p ∙ first_told ds d a n y h t.second (passed rs 0 (read_leg a n) new).kind refl f) g
+reported_alone ds t d (suc zero) a n y g e h = let rs = all_recorded ds in let new = all_unnoted ds d in
+    subst (λ o. let c = carried rs (record { first = t.first; second = o }) new in c.outcome.kind ≡ Done → get_or c.outcome.bytes (body_reads t.first.body + y) 0 ≡ By ds d a n y h (cond (answers_to t.first.address a) 1 0) c.devices)
+    (sym e) (λ f. second_told ds d a n y h t.first (passed rs 0 t.first new).kind refl f) g
+reported_alone ds t d (suc (suc k)) a n y g e h = cc
