@@ -11,3 +11,5 @@ pub mod Ranks
 pub mod Counted
 pub mod Lawful
 pub mod Beginning
+pub mod Morphisms
+pub mod Noting
