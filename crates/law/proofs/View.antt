@@ -13,3 +13,4 @@ pub mod Lawful
 pub mod Beginning
 pub mod Morphisms
 pub mod Noting
+pub mod Alongside
