@@ -14,3 +14,4 @@ pub mod Beginning
 pub mod Morphisms
 pub mod Noting
 pub mod Alongside
+pub mod Winners

@@ -24,6 +24,7 @@ use Rattle.law.proofs.Alone.Alike.{Alike}
 use Rattle.law.proofs.Alone.Idle.{Idle}
 use Rattle.law.specs.Legal.{Legal}
 use Rattle.law.proofs.Alone.PortsSide.{unheld, ports_side, idle_ports}
+use Rattle.law.proofs.Alone.Reached.{noted_by}
 use Rattle.law.proofs.Alone.SlotsLeft.{slots_left}
 use Rattle.law.proofs.Law.Machine.{Bus}
 use Rattle.law.proofs.Law.Stands.{Stands, idle, claims, begun, low, rose, high}
@@ -31,7 +32,7 @@ use Rattle.law.proofs.Law.Uses.{Tasks, Watch as LawWatch}
 use Rattle.law.proofs.View.Beginning.{StandsAt, every_use_lawful, every_use_stands}
 use Rattle.law.proofs.View.Booked.{contenders, turn_if}
 use Rattle.law.proofs.View.Morphisms.{pulls_to, device_of}
-use Rattle.law.proofs.View.Noting.{longer_longer, length_longer, forgetting, bare_devices, bare_ports, ports_noted, length_noted, noted_unheld, noted_idle, bare_placed, same_holds, steps_noted, steps_bare, with_notes, new_bare}
+use Rattle.law.proofs.View.Noting.{longer_longer, length_longer, forgetting, bare_devices, bare_ports, length_noted, noted_unheld, noted_idle, bare_placed, same_holds, steps_noted, steps_bare, with_notes, new_bare}
 use Rattle.law.proofs.View.Used.{used_as}
 
 -- what arms and ticks keep, calls keep
@@ -193,8 +194,8 @@ module _ (hs : List HostBehaviour) (ds : List Behaviour) where
   told_bare u = ap (λ v. listed (λ h. served_told h (signal u.wire v)) hs u.masters) (levels_bare u)
 
   -- what is noted in a tick
-  noted_bare : (u : BusModel hs es) (a : Holds ds) → ports_noted ds (tick_at hs es u (same_holds ds a)).1.ports ≡ longer (ports_noted ds u.ports) (asks_at hs ds (bare u))
-  noted_bare u a = steps_noted ds u.ports (signal u.wire (levels_at hs es u)) a ∙ ap (λ v. longer (ports_noted ds u.ports) (listed (λ b q. asks b q (signal u.wire v)) ds (bare_ports ds u.ports))) (levels_bare u)
+  noted_bare : (u : BusModel hs es) (a : Holds ds) → noted_by ds (tick_at hs es u (same_holds ds a)).1.ports ≡ longer (noted_by ds u.ports) (asks_at hs ds (bare u))
+  noted_bare u a = steps_noted ds u.ports (signal u.wire (levels_at hs es u)) a ∙ ap (λ v. longer (noted_by ds u.ports) (listed (λ b q. asks b q (signal u.wire v)) ds (bare_ports ds u.ports))) (levels_bare u)
 
   abbrev asked_so_far : Use hs ds → List (List Step)
   asked_so_far x = cond x.book.turn x.asked (nothing_asked hs ds x.bus)
@@ -208,7 +209,7 @@ module _ (hs : List HostBehaviour) (ds : List Behaviour) where
     pub watch : y.watch ≡ x.watch
     pub many : length x.asked ≡ length ds
     -- since the turn opened
-    pub noted : ports_noted ds y.bus.ports ≡ longer (all_noted ds y.book.devices) (asked_so_far x)
+    pub noted : noted_by ds y.bus.ports ≡ longer (all_noted ds y.book.devices) (asked_so_far x)
 
   module _ (y : Use hs es) (x : Use hs ds) (s : Alongside y x) where
     pub same_event : event_at hs es y.bus ≡ event_at hs ds x.bus
@@ -233,15 +234,15 @@ module _ (hs : List HostBehaviour) (ds : List Behaviour) where
     asked_many = length_longer (asked_so_far x) (asks_at hs ds x.bus) ∙ long
 
     -- in the next tick too
-    pub asked_noted : (a : Holds ds) → ports_noted ds (tick_at hs es y.bus (same_holds ds a)).1.ports ≡ longer (all_noted ds y.book.devices) (asked_then hs ds x)
-    asked_noted a = noted_bare y.bus a ∙ (ap (λ u. longer (ports_noted ds y.bus.ports) (asks_at hs ds u)) s.bus
+    pub asked_noted : (a : Holds ds) → noted_by ds (tick_at hs es y.bus (same_holds ds a)).1.ports ≡ longer (all_noted ds y.book.devices) (asked_then hs ds x)
+    asked_noted a = noted_bare y.bus a ∙ (ap (λ u. longer (noted_by ds y.bus.ports) (asks_at hs ds u)) s.bus
         ∙ (ap (λ l. longer l (asks_at hs ds x.bus)) s.noted ∙ longer_longer (all_noted ds y.book.devices) (asked_so_far x) (asks_at hs ds x.bus) (let z = long in let w = length_noted ds y.book.devices in omega arith)))
 
   -- at rest nothing is noted but what the book's devices have
-  noted_at_rest : (y : Use hs es) (x : Use hs ds) → y.book.turn ≡ false → x.book.turn ≡ false → StandsAt hs es y → ports_noted ds y.bus.ports ≡ longer (all_noted ds y.book.devices) (asked_so_far x)
+  noted_at_rest : (y : Use hs es) (x : Use hs ds) → y.book.turn ≡ false → x.book.turn ≡ false → StandsAt hs es y → noted_by ds y.bus.ports ≡ longer (all_noted ds y.book.devices) (asked_so_far x)
   noted_at_rest y x e f st = let z = used_as hs es y in
       sym (noted_unheld ds y.bus.ports)
-      ∙ (ap (ports_noted ds) (at_rest transfers (ports_side es) slots_left Alike Legal (Idle es) z.bus z.book.armed z.book.side z.book.turn z.watch st.0 st.1 (ap (λ v. turn_if v (contenders hs y.book.entries)) e))
+      ∙ (ap (noted_by ds) (at_rest transfers (ports_side es) slots_left Alike Legal (Idle es) z.bus z.book.armed z.book.side z.book.turn z.watch st.0 st.1 (ap (λ v. turn_if v (contenders hs y.book.entries)) e))
       ∙ (noted_idle ds y.book.devices ∙ (sym (longer_nothing ds y.book.devices x.bus.ports) ∙ ap (λ v. longer (all_noted ds y.book.devices) (cond v x.asked (nothing_asked hs ds x.bus))) (sym f))))
 
   module _ (y : Use hs es) (x : Use hs ds) (n : ℕ) (s : Alongside y x) where
@@ -294,7 +295,7 @@ module _ (hs : List HostBehaviour) (ds : List Behaviour) where
       | inr k ↦ ap (bare_devices ds) (devices_stay hs es y.book e k) ∙ (s.devices ∙ sym (devices_stay hs ds x.book f (λ j. k (g ∙ j))))
     ]
 
-    noted_if : (v : Bool) → now.book.turn ≡ v → ports_noted ds then.bus.ports ≡ longer (all_noted ds then.book.devices) (asked_so_far now)
+    noted_if : (v : Bool) → now.book.turn ≡ v → noted_by ds then.bus.ports ≡ longer (all_noted ds then.book.devices) (asked_so_far now)
     noted_if false k = noted_at_rest then now (turn ∙ k) k st
     noted_if true k =
         let still_open = sym (turn_is hs es y.book e) ∙ (turn ∙ k) in
@@ -330,7 +331,7 @@ module _ (hs : List HostBehaviour) (ds : List Behaviour) where
     first_devices [] qs = refl
     first_devices (b ∷ gs) qs = ap (λ r. (record { address = qs.0.address; meaning = qs.0.meaning }, r)) (first_devices gs qs.1)
 
-    first_noted : (gs : List Behaviour) (qs : Bank PortModel gs) → ports_noted gs (each port_new (all_recorded gs) (with_notes gs qs)) ≡
+    first_noted : (gs : List Behaviour) (qs : Bank PortModel gs) → noted_by gs (each port_new (all_recorded gs) (with_notes gs qs)) ≡
         longer (all_noted gs (each (placed_at hs (all_recorded gs)) (all_recorded gs) (with_notes gs qs))) (listed (λ b p. []) gs (each port_new gs qs))
     first_noted [] qs = refl
     first_noted (b ∷ gs) qs = ap (λ l. [] ∷ l) (first_noted gs qs.1)

@@ -19,6 +19,7 @@ use Rattle.law.specs.Buses.{Holds, ports_step}
 use Rattle.law.specs.Carrying.{Placed}
 use Rattle.law.specs.Laws.{longer}
 use Rattle.law.proofs.Alone.PortsSide.{unheld, idle_ports}
+use Rattle.law.proofs.Alone.Reached.{noted_by}
 use Rattle.law.proofs.View.Morphisms.{Morphism, Morphisms, port_to, sees_to, devices_to, ports_to, device_of}
 
 -- lists that grow
@@ -81,18 +82,9 @@ bare_devices ds d = devices_to (all_recorded ds) ds (forgetting ds) d
 abbrev pub bare_ports : (ds : List Behaviour) → Bank PortModel (all_recorded ds) → Bank PortModel ds
 bare_ports ds p = ports_to (all_recorded ds) ds (forgetting ds) p
 
--- what the devices of these ports have noted
-abbrev pub ports_noted : (ds : List Behaviour) → Bank PortModel (all_recorded ds) → List (List Step)
-ports_noted [] p = []
-ports_noted (b ∷ ds) p = p.0.meaning.steps ∷ ports_noted ds p.1
-
 pub length_noted : (ds : List Behaviour) (d : Bank Placed (all_recorded ds)) → length (all_noted ds d) ≡ length ds
 length_noted [] d = refl
 length_noted (b ∷ ds) d = ap suc (length_noted ds d.1)
-
-pub length_ports_noted : (ds : List Behaviour) (p : Bank PortModel (all_recorded ds)) → length (ports_noted ds p) ≡ length ds
-length_ports_noted [] p = refl
-length_ports_noted (b ∷ ds) p = ap suc (length_ports_noted ds p.1)
 
 pub bare_unnoted : (ds : List Behaviour) (d : Bank Placed ds) → bare_devices ds (all_unnoted ds d) ≡ d
 bare_unnoted [] d = refl
@@ -107,20 +99,20 @@ pub noted_after : (ds : List Behaviour) (d e : Bank Placed (all_recorded ds)) �
 noted_after [] d e = refl
 noted_after (b ∷ ds) d e = ap (λ l. (d.0.meaning.steps ++ e.0.meaning.steps) ∷ l) (noted_after ds d.1 e.1)
 
-pub ports_noted_after : (ds : List Behaviour) (d : Bank Placed (all_recorded ds)) (p : Bank PortModel (all_recorded ds)) →
-    ports_noted ds (ports_to (all_recorded ds) (all_recorded ds) (after_these ds d) p) ≡ longer (all_noted ds d) (ports_noted ds p)
-ports_noted_after [] d p = refl
-ports_noted_after (b ∷ ds) d p = ap (λ l. (d.0.meaning.steps ++ p.0.meaning.steps) ∷ l) (ports_noted_after ds d.1 p.1)
+pub noted_by_after : (ds : List Behaviour) (d : Bank Placed (all_recorded ds)) (p : Bank PortModel (all_recorded ds)) →
+    noted_by ds (ports_to (all_recorded ds) (all_recorded ds) (after_these ds d) p) ≡ longer (all_noted ds d) (noted_by ds p)
+noted_by_after [] d p = refl
+noted_by_after (b ∷ ds) d p = ap (λ l. (d.0.meaning.steps ++ p.0.meaning.steps) ∷ l) (noted_by_after ds d.1 p.1)
 
-pub noted_unheld : (ds : List Behaviour) (p : Bank PortModel (all_recorded ds)) → ports_noted ds (each unheld (all_recorded ds) p) ≡ ports_noted ds p
+pub noted_unheld : (ds : List Behaviour) (p : Bank PortModel (all_recorded ds)) → noted_by ds (each unheld (all_recorded ds) p) ≡ noted_by ds p
 noted_unheld [] p = refl
 noted_unheld (b ∷ ds) p = ap (λ l. p.0.meaning.steps ∷ l) (noted_unheld ds p.1)
 
-pub noted_idle : (ds : List Behaviour) (d : Bank Placed (all_recorded ds)) → ports_noted ds (idle_ports (all_recorded ds) d) ≡ all_noted ds d
+pub noted_idle : (ds : List Behaviour) (d : Bank Placed (all_recorded ds)) → noted_by ds (idle_ports (all_recorded ds) d) ≡ all_noted ds d
 noted_idle [] d = refl
 noted_idle (b ∷ ds) d = ap (λ l. d.0.meaning.steps ∷ l) (noted_idle ds d.1)
 
-pub noted_placed : (ds : List Behaviour) (p : Bank PortModel (all_recorded ds)) → all_noted ds (each device_of (all_recorded ds) p) ≡ ports_noted ds p
+pub noted_placed : (ds : List Behaviour) (p : Bank PortModel (all_recorded ds)) → all_noted ds (each device_of (all_recorded ds) p) ≡ noted_by ds p
 noted_placed [] p = refl
 noted_placed (b ∷ ds) p = ap (λ l. p.0.meaning.steps ∷ l) (noted_placed ds p.1)
 
@@ -174,7 +166,7 @@ same_holds [] a = tt
 same_holds (b ∷ ds) a = (a.0, same_holds ds a.1)
 
 pub steps_noted : (ds : List Behaviour) (p : Bank PortModel (all_recorded ds)) (s : Signal) (a : Holds ds) →
-    ports_noted ds (ports_step (all_recorded ds) p s (same_holds ds a)) ≡ longer (ports_noted ds p) (listed (λ b q. asks b q s) ds (bare_ports ds p))
+    noted_by ds (ports_step (all_recorded ds) p s (same_holds ds a)) ≡ longer (noted_by ds p) (listed (λ b q. asks b q s) ds (bare_ports ds p))
 steps_noted [] p s a = refl
 steps_noted (b ∷ ds) p s a = ap₂ ◌∷◌ (step_noted b p.0 s.event s.bit a.0.0) (steps_noted ds p.1 s a.1)
 
