@@ -15,3 +15,4 @@ pub mod Morphisms
 pub mod Noting
 pub mod Alongside
 pub mod Winners
+pub mod Asked

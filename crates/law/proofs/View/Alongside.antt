@@ -1,29 +1,29 @@
 -- A use of the bus, and beside it the use of the same bus over devices that note their steps: both go the same way, and since a turn opened the devices have noted what was asked in it.
-use Rattle.std.proofs.Common.{◌≡◌, ℕ, zero, suc, ◌≤◌, Bool, true, false, cond, ltb, ◌⊎◌, List, [], ◌∷◌, ◌++◌, append-nil, ap₂, length, None, Option, sym, refl, ap, ◌∙◌, subst, inl, inr, arith}
-use Rattle.transfer.specs.Drafts.{TransferModel}
+use Rattle.std.proofs.Common.{◌≡◌, ℕ, zero, suc, Bool, true, false, cond, ltb, ◌⊎◌, List, [], ◌∷◌, ◌++◌, append-nil, ap₂, length, None, Option, sym, refl, ap, ◌∙◌, subst, inl, inr, arith}
 use Rattle.transfer.specs.Outcomes.{OutcomeModel}
 use Rattle.device.specs.Behaviours.{Behaviour}
 use Rattle.device.specs.Steps.{Step}
 use Rattle.host.specs.Behaviours.{HostBehaviour}
-use Rattle.master.specs.declared.mark.Mark.{Mark}
 use Rattle.master.specs.Scripts.{Script, transfers}
 use Rattle.master.specs.Serving.{Served, served_step, served_pulls, served_mark, served_told}
+use Rattle.port.specs.declared.port.Mode.{Mode}
 use Rattle.port.specs.Asks.{asks}
-use Rattle.port.specs.Ports.{PortModel, port_new}
+use Rattle.port.specs.Ports.{PortModel, counts, sees as port_sees, port_new}
 use Rattle.wire.specs.declared.wire.Event.{Event}
 use Rattle.wire.specs.declared.wire.Event.TheVariants.{Rise, Fall, Start, Stop, SteadyHigh, SteadyLow}
+use Rattle.wire.specs.declared.wire.Signal.{Signal}
 use Rattle.wire.specs.Wires.{both, levels_of, event, signal, wire_after, busy_after}
 use Rattle.law.specs.Asked.{all_recorded, all_noted}
 use Rattle.law.specs.Banks.{Bank, each, listed, any_true}
 use Rattle.law.specs.Books.{Entry, standing_of, enters, leave_all, entry_arm_nth, Book, opens, told_at_stop, closes, book_tells, book_after}
-use Rattle.law.specs.Buses.{all_pulls, Holds, BusModel, arm_at, levels_at, after_levels, tick_at, told_at, is_at_rest}
+use Rattle.law.specs.Buses.{all_pulls, Holds, ports_step, BusModel, arm_at, levels_at, after_levels, tick_at, told_at, is_at_rest}
 use Rattle.law.specs.Carrying.{Placed}
-use Rattle.law.specs.Laws.{Watch, watching, sees, notes_lost, longer, Clocked, Call, arms, ticks, runs, Use, event_at, marks_of, watched, asks_at, nothing_asked, asked_then, ticks_once, run_on, calls, used, placed_at, beginning, Law}
+use Rattle.law.specs.Laws.{Watch, watching, sees, notes_lost, longer, Clocked, Call, arms, ticks, runs, Use, event_at, marks_of, asks_at, nothing_asked, asked_then, ticks_once, run_on, calls, used, placed_at, beginning, Law}
 use Rattle.law.proofs.Sides.{Side}
 use Rattle.law.proofs.Alone.Alike.{Alike}
 use Rattle.law.proofs.Alone.Idle.{Idle}
 use Rattle.law.specs.Legal.{Legal}
-use Rattle.law.proofs.Alone.PortsSide.{unheld, ports_side, idle_ports}
+use Rattle.law.proofs.Alone.PortsSide.{ports_side, placed}
 use Rattle.law.proofs.Alone.Reached.{noted_by}
 use Rattle.law.proofs.Alone.SlotsLeft.{slots_left}
 use Rattle.law.proofs.Law.Machine.{Bus}
@@ -31,7 +31,7 @@ use Rattle.law.proofs.Law.Stands.{Stands, idle, claims, begun, low, rose, high}
 use Rattle.law.proofs.Law.Uses.{Tasks, Watch as LawWatch}
 use Rattle.law.proofs.View.Beginning.{StandsAt, every_use_lawful, every_use_stands}
 use Rattle.law.proofs.View.Booked.{contenders, turn_if}
-use Rattle.law.proofs.View.Morphisms.{pulls_to, device_of}
+use Rattle.law.proofs.View.Morphisms.{pulls_to, port_places, device_places}
 use Rattle.law.proofs.View.Noting.{longer_longer, length_longer, forgetting, bare_devices, bare_ports, length_noted, noted_unheld, noted_idle, bare_placed, same_holds, steps_noted, steps_bare, with_notes, new_bare}
 use Rattle.law.proofs.View.Used.{used_as}
 
@@ -168,6 +168,22 @@ length_listed : (X : Type 0) (f : (b : Behaviour) → PortModel b → X) (ds : L
 length_listed X f [] p = refl
 length_listed X f (b ∷ ds) p = ap suc (length_listed X f ds p.1)
 
+-- ports stay at their addresses
+module _ (b : Behaviour) where
+  bit_stays : (p : PortModel b) (m : Mode) (x : Bool) (n : ℕ) → (counts b p m x n).address ≡ p.address
+  bit_stays p m x n = grind arith
+
+  port_stays : (p : PortModel b) (e : Event) (o : Option Bool) (n : ℕ) → (port_sees b p e o n).address ≡ p.address
+  port_stays p e o n = grind (arith, bit_stays p p.mode)
+
+pub ports_stay : (ds : List Behaviour) (p : Bank PortModel ds) (s : Signal) (a : Holds ds) → port_places ds (ports_step ds p s a) ≡ port_places ds p
+ports_stay [] p s a = refl
+ports_stay (b ∷ ds) p s a = λ i. port_stays b p.0 s.event s.bit a.0.0 i ∷ ports_stay ds p.1 s a.1 i
+
+pub places_of : (ds : List Behaviour) (p : Bank PortModel ds) → device_places ds (each placed ds p) ≡ port_places ds p
+places_of [] p = refl
+places_of (b ∷ ds) p = ap (λ l. p.0.address ∷ l) (places_of ds p.1)
+
 module _ (hs : List HostBehaviour) (ds : List Behaviour) where
   abbrev pub es : List Behaviour
   es = all_recorded ds
@@ -207,6 +223,7 @@ module _ (hs : List HostBehaviour) (ds : List Behaviour) where
     pub turn : y.book.turn ≡ x.book.turn
     pub devices : bare_devices ds y.book.devices ≡ x.book.devices
     pub watch : y.watch ≡ x.watch
+    pub places : port_places ds x.bus.ports ≡ device_places ds x.book.devices
     pub many : length x.asked ≡ length ds
     -- since the turn opened
     pub noted : noted_by ds y.bus.ports ≡ longer (all_noted ds y.book.devices) (asked_so_far x)
@@ -215,7 +232,7 @@ module _ (hs : List HostBehaviour) (ds : List Behaviour) where
     pub same_event : event_at hs es y.bus ≡ event_at hs ds x.bus
     same_event = event_bare y.bus ∙ ap (event_at hs ds) s.bus
 
-    same_marks : marks_of hs es y.bus ≡ marks_of hs ds x.bus
+    pub same_marks : marks_of hs es y.bus ≡ marks_of hs ds x.bus
     same_marks = marks_bare y.bus ∙ ap (marks_of hs ds) s.bus
 
     pub same_told : told_at hs es y.bus ≡ told_at hs ds x.bus
@@ -253,6 +270,7 @@ module _ (hs : List HostBehaviour) (ds : List Behaviour) where
       turn = s.turn;
       devices = s.devices;
       watch = s.watch;
+      places = s.places;
       many = s.many;
       noted = s.noted;
     }
@@ -291,8 +309,14 @@ module _ (hs : List HostBehaviour) (ds : List Behaviour) where
 
     devices : bare_devices ds then.book.devices ≡ now.book.devices
     devices = elim (is_stop e) [
-      | inl k ↦ ap (bare_devices ds) (sym (ny.point.devices (free y.bus k))) ∙ (bare_placed ds then.bus.ports ∙ (ap (λ u. each device_of ds u.ports) bus ∙ nx.point.devices (free x.bus (sym g ∙ k))))
+      | inl k ↦ ap (bare_devices ds) (sym (ny.point.devices (free y.bus k))) ∙ (bare_placed ds then.bus.ports ∙ (ap (λ u. each placed ds u.ports) bus ∙ nx.point.devices (free x.bus (sym g ∙ k))))
       | inr k ↦ ap (bare_devices ds) (devices_stay hs es y.book e k) ∙ (s.devices ∙ sym (devices_stay hs ds x.book f (λ j. k (g ∙ j))))
+    ]
+
+    places : port_places ds now.bus.ports ≡ device_places ds now.book.devices
+    places = elim (is_stop f) [
+      | inl k ↦ sym (places_of ds now.bus.ports) ∙ ap (device_places ds) (nx.point.devices (free x.bus k))
+      | inr k ↦ ports_stay ds x.bus.ports (signal x.bus.wire (levels_at hs ds x.bus)) a ∙ (s.places ∙ ap (device_places ds) (sym (devices_stay hs ds x.book f k)))
     ]
 
     noted_if : (v : Bool) → now.book.turn ≡ v → noted_by ds then.bus.ports ≡ longer (all_noted ds then.book.devices) (asked_so_far now)
@@ -309,6 +333,7 @@ module _ (hs : List HostBehaviour) (ds : List Behaviour) where
       turn = turn;
       devices = devices;
       watch = watch;
+      places = places;
       many = asked_many y x s;
       noted = noted_if now.book.turn refl;
     }
@@ -331,6 +356,10 @@ module _ (hs : List HostBehaviour) (ds : List Behaviour) where
     first_devices [] qs = refl
     first_devices (b ∷ gs) qs = ap (λ r. (record { address = qs.0.address; meaning = qs.0.meaning }, r)) (first_devices gs qs.1)
 
+    first_places : (gs : List Behaviour) (qs : Bank PortModel gs) → port_places gs (each port_new gs qs) ≡ device_places gs (each (placed_at hs gs) gs qs)
+    first_places [] qs = refl
+    first_places (b ∷ gs) qs = ap (λ l. qs.0.address ∷ l) (first_places gs qs.1)
+
     first_noted : (gs : List Behaviour) (qs : Bank PortModel gs) → noted_by gs (each port_new (all_recorded gs) (with_notes gs qs)) ≡
         longer (all_noted gs (each (placed_at hs (all_recorded gs)) (all_recorded gs) (with_notes gs qs))) (listed (λ b p. []) gs (each port_new gs qs))
     first_noted [] qs = refl
@@ -343,6 +372,7 @@ module _ (hs : List HostBehaviour) (ds : List Behaviour) where
       turn = refl;
       devices = first_devices ds ps;
       watch = refl;
+      places = first_places ds ps;
       many = length_listed (List Step) (λ b p. []) ds ps;
       noted = first_noted ds ps;
     }
@@ -360,19 +390,19 @@ module _ (hs : List HostBehaviour) (ds : List Behaviour) where
             alongside = subst (λ y. Alongside y (calls hs ds x (arms n))) (sym (one_more hs es first_noting b.noting_calls (arms n))) (armed_alongside (used hs es first_noting b.noting_calls) x n b.alongside);
           })
           (λ x a b.
-              let cs = b.noting_calls in
-              let y = used hs es first_noting cs in
-              let c = ticks (same_holds ds a) in
-              let lx : Law hs ds x = subst (Law hs ds) (sym b.is) (every_use_lawful hs ds ms ps clocked b.calls_made) in
-              let is : ticks_once hs ds x a ≡ used hs ds first (b.calls_made ++ (ticks a ∷ [])) = ap (λ z. ticks_once hs ds z a) b.is ∙ sym (one_more hs ds first b.calls_made (ticks a)) in
-              let nx : Law hs ds (ticks_once hs ds x a) = subst (Law hs ds) (sym is) (every_use_lawful hs ds ms ps clocked (b.calls_made ++ (ticks a ∷ []))) in
-              let st : StandsAt hs es (ticks_once hs es y (same_holds ds a)) = subst (StandsAt hs es) (one_more hs es first_noting cs c) (every_use_stands hs es ms (with_notes ds ps) clocked (cs ++ (c ∷ []))) in
-              record {
-                calls_made = b.calls_made ++ (ticks a ∷ []);
-                is = is;
-                noting_calls = cs ++ (c ∷ []);
-                alongside = subst (λ z. Alongside z (ticks_once hs ds x a)) (sym (one_more hs es first_noting cs c))
-                    (ticked_alongside y x a b.alongside (every_use_lawful hs es ms (with_notes ds ps) clocked cs) lx (law_then cs c) nx st);
-              })
+          let cs = b.noting_calls in
+          let y = used hs es first_noting cs in
+          let c = ticks (same_holds ds a) in
+          let lx : Law hs ds x = subst (Law hs ds) (sym b.is) (every_use_lawful hs ds ms ps clocked b.calls_made) in
+          let is : ticks_once hs ds x a ≡ used hs ds first (b.calls_made ++ (ticks a ∷ [])) = ap (λ z. ticks_once hs ds z a) b.is ∙ sym (one_more hs ds first b.calls_made (ticks a)) in
+          let nx : Law hs ds (ticks_once hs ds x a) = subst (Law hs ds) (sym is) (every_use_lawful hs ds ms ps clocked (b.calls_made ++ (ticks a ∷ []))) in
+          let st : StandsAt hs es (ticks_once hs es y (same_holds ds a)) = subst (StandsAt hs es) (one_more hs es first_noting cs c) (every_use_stands hs es ms (with_notes ds ps) clocked (cs ++ (c ∷ []))) in
+          record {
+            calls_made = b.calls_made ++ (ticks a ∷ []);
+            is = is;
+            noting_calls = cs ++ (c ∷ []);
+            alongside = subst (λ z. Alongside z (ticks_once hs ds x a)) (sym (one_more hs es first_noting cs c))
+                (ticked_alongside y x a b.alongside (every_use_lawful hs es ms (with_notes ds ps) clocked cs) lx (law_then cs c) nx st);
+          })
           first cs
           (record { calls_made = []; is = refl; noting_calls = []; alongside = first_alongside })

@@ -1,12 +1,11 @@
 -- Maps of meanings that commute with the steps of a device, and what goes the same way over them: ports, a script played alone, a transfer carried alone.
-use Rattle.std.proofs.Common.{◌≡◌, ℕ, zero, suc, Bool, true, false, cond, not, ◌||◌, List, [], ◌∷◌, Some, None, Option, sym, refl, ap, ◌∙◌, le_refl, arith}
+use Rattle.std.proofs.Common.{◌≡◌, ℕ, zero, suc, Bool, true, false, cond, not, ◌||◌, List, [], ◌∷◌, Option, sym, refl, ap, ◌∙◌, le_refl, arith}
 use Rattle.transfer.specs.declared.leg.Direction.{Direction}
 use Rattle.transfer.specs.Drafts.{TransferModel}
 use Rattle.device.specs.Behaviours.{Behaviour}
 use Rattle.port.specs.declared.port.Mode.{Mode}
 use Rattle.port.specs.declared.port.Mode.TheVariants.{Out, Addressing}
 use Rattle.wire.specs.declared.wire.Event.{Event}
-use Rattle.wire.specs.declared.wire.Pulls.{Pulls}
 use Rattle.wire.specs.Octets.{part}
 use Rattle.wire.specs.Wires.{both}
 use Rattle.port.specs.Ports.{PortModel, port_pulls, counts, settles, sees}
@@ -21,7 +20,7 @@ use Rattle.law.specs.Legal.{Legal}
 use Rattle.law.proofs.Sides.{Side, ends, letter, heard, after, string, last, final}
 use Rattle.law.proofs.Alone.Banks.{any}
 use Rattle.law.proofs.Alone.CarriedAlone.{carried_alone}
-use Rattle.law.proofs.Alone.PortsSide.{counting, starting, stopping, pulling, ports_side, idle_ports}
+use Rattle.law.proofs.Alone.PortsSide.{counting, pulling, ports_side, idle_ports, placed}
 use Rattle.law.proofs.Alone.SlotsLeft.{slots_left}
 use Rattle.law.proofs.Alone.Statements.{opened_ports}
 
@@ -77,6 +76,18 @@ pulls_to [] [] h s = refl
 pulls_to [] (c ∷ cs) h s = elim h [ ]
 pulls_to (b ∷ bs) [] h s = elim h [ ]
 pulls_to (b ∷ bs) (c ∷ cs) h s = ap (both (port_pulls b s.0)) (pulls_to bs cs h.1 s.1)
+
+abbrev pub port_places : (ds : List Behaviour) → Bank PortModel ds → List ℕ
+port_places ds s = listed (λ b p. p.address) ds s
+
+abbrev pub device_places : (ds : List Behaviour) → Bank Placed ds → List ℕ
+device_places ds d = listed (λ b p. p.address) ds d
+
+pub places_to : (bs cs : List Behaviour) (h : Morphisms bs cs) (s : Bank PortModel bs) → port_places cs (ports_to bs cs h s) ≡ port_places bs s
+places_to [] [] h s = refl
+places_to [] (c ∷ cs) h s = elim h [ ]
+places_to (b ∷ bs) [] h s = elim h [ ]
+places_to (b ∷ bs) (c ∷ cs) h s = ap (λ l. s.0.address ∷ l) (places_to bs cs h.1 s.1)
 
 -- the side
 pub side_bit : (bs cs : List Behaviour) (h : Morphisms bs cs) (s : Bank PortModel bs) (x : Bool) → each (counting x) cs (ports_to bs cs h s) ≡ ports_to bs cs h (each (counting x) bs s)
@@ -160,15 +171,12 @@ module _ (W : Script) (D E : Side) (h : SideMorphism D E) where
       ∙ ap (λ f. cond (ends x) c f) (final_to n q (after D x s))
 
 -- idle ports by their devices
-abbrev pub device_of : (b : Behaviour) → PortModel b → Placed b
-device_of b p = record { address = p.address; meaning = p.meaning }
-
-pub devices_of_idle : (ds : List Behaviour) (d : Bank Placed ds) → each device_of ds (idle_ports ds d) ≡ d
+pub devices_of_idle : (ds : List Behaviour) (d : Bank Placed ds) → each placed ds (idle_ports ds d) ≡ d
 devices_of_idle [] d = refl
 devices_of_idle (b ∷ ds) d = ap (λ r. (d.0, r)) (devices_of_idle ds d.1)
 
 pub idle_same : (ds : List Behaviour) (d e : Bank Placed ds) → idle_ports ds d ≡ idle_ports ds e → d ≡ e
-idle_same ds d e q = sym (devices_of_idle ds d) ∙ (ap (each device_of ds) q ∙ devices_of_idle ds e)
+idle_same ds d e q = sym (devices_of_idle ds d) ∙ (ap (each placed ds) q ∙ devices_of_idle ds e)
 
 pub idle_to : (bs cs : List Behaviour) (h : Morphisms bs cs) (d : Bank Placed bs) → idle_ports cs (devices_to bs cs h d) ≡ ports_to bs cs h (idle_ports bs d)
 idle_to [] [] h d = refl
@@ -184,6 +192,10 @@ module _ (bs cs : List Behaviour) (h : Morphisms bs cs) where
   pub played_to : (n : ℕ) (t : TransferModel) (d : Bank Placed bs) →
       last transfers (ports_side cs) n (opening_of t) (opened_ports cs (devices_to bs cs h d)) ≡ ports_to bs cs h (last transfers (ports_side bs) n (opening_of t) (opened_ports bs d))
   played_to n t d = ap (last transfers (ports_side cs) n (opening_of t)) (opened_to d) ∙ last_to transfers (ports_side bs) (ports_side cs) (side_to bs cs h) n (opening_of t) (opened_ports bs d)
+
+  pub spelled_to : (n : ℕ) (t : TransferModel) (d : Bank Placed bs) →
+      string transfers (ports_side cs) n (opening_of t) (opened_ports cs (devices_to bs cs h d)) ≡ string transfers (ports_side bs) n (opening_of t) (opened_ports bs d)
+  spelled_to n t d = ap (string transfers (ports_side cs) n (opening_of t)) (opened_to d) ∙ string_to transfers (ports_side bs) (ports_side cs) (side_to bs cs h) n (opening_of t) (opened_ports bs d)
 
   module _ (t : TransferModel) (d : Bank Placed bs) (k : Legal t) where
     abbrev n : ℕ

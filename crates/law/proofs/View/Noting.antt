@@ -1,5 +1,5 @@
 -- Devices that note their steps go as the devices do, whatever is noted already; and what they note in a tick is what the ports ask.
-use Rattle.std.proofs.Common.{◌≡◌, ℕ, zero, suc, ◌/◌, ◌%◌, ◌≤◌, Bool, true, false, cond, eqb, ltb, List, [], ◌∷◌, ◌++◌, length, append_assoc, append-nil, Some, None, Option, sym, refl, ap, ◌∙◌, ap₂, arith}
+use Rattle.std.proofs.Common.{◌≡◌, ℕ, suc, ◌/◌, ◌%◌, ◌≤◌, Bool, true, false, cond, eqb, ltb, List, [], ◌∷◌, ◌++◌, length, append_assoc, append-nil, Some, None, Option, sym, refl, ap, ap₂, arith}
 use Rattle.std.proofs.lemmas.List.{append_cancel_left}
 use Rattle.transfer.specs.declared.leg.Direction.TheVariants.{Write, Read}
 use Rattle.transfer.specs.Legs.{direction_of}
@@ -18,9 +18,9 @@ use Rattle.law.specs.Banks.{Bank, each, listed}
 use Rattle.law.specs.Buses.{Holds, ports_step}
 use Rattle.law.specs.Carrying.{Placed}
 use Rattle.law.specs.Laws.{longer}
-use Rattle.law.proofs.Alone.PortsSide.{unheld, idle_ports}
+use Rattle.law.proofs.Alone.PortsSide.{unheld, idle_ports, placed}
 use Rattle.law.proofs.Alone.Reached.{noted_by}
-use Rattle.law.proofs.View.Morphisms.{Morphism, Morphisms, port_to, sees_to, devices_to, ports_to, device_of}
+use Rattle.law.proofs.View.Morphisms.{Morphism, Morphisms, port_to, sees_to, devices_to, ports_to}
 
 -- lists that grow
 pub longer_longer : (xs ys zs : List (List Step)) → length xs ≤ length ys → longer (longer xs ys) zs ≡ longer xs (longer ys zs)
@@ -112,11 +112,11 @@ pub noted_idle : (ds : List Behaviour) (d : Bank Placed (all_recorded ds)) → n
 noted_idle [] d = refl
 noted_idle (b ∷ ds) d = ap (λ l. d.0.meaning.steps ∷ l) (noted_idle ds d.1)
 
-pub noted_placed : (ds : List Behaviour) (p : Bank PortModel (all_recorded ds)) → all_noted ds (each device_of (all_recorded ds) p) ≡ noted_by ds p
+pub noted_placed : (ds : List Behaviour) (p : Bank PortModel (all_recorded ds)) → all_noted ds (each placed (all_recorded ds) p) ≡ noted_by ds p
 noted_placed [] p = refl
 noted_placed (b ∷ ds) p = ap (λ l. p.0.meaning.steps ∷ l) (noted_placed ds p.1)
 
-pub bare_placed : (ds : List Behaviour) (p : Bank PortModel (all_recorded ds)) → bare_devices ds (each device_of (all_recorded ds) p) ≡ each device_of ds (bare_ports ds p)
+pub bare_placed : (ds : List Behaviour) (p : Bank PortModel (all_recorded ds)) → bare_devices ds (each placed (all_recorded ds) p) ≡ each placed ds (bare_ports ds p)
 bare_placed [] p = refl
 bare_placed (b ∷ ds) p = ap (λ r. (record { address = p.0.address; meaning = p.0.meaning.meaning }, r)) (bare_placed ds p.1)
 

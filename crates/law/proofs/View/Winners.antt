@@ -1,5 +1,5 @@
 -- Who is told at a stop: the outcome is its own, and its steps are those that the devices take.
-use Rattle.std.proofs.Common.{◌≡◌, ℕ, zero, suc, ◌+◌, ◌≤◌, Bool, true, false, cond, not, List, [], ◌∷◌, map, get_or, is_some, Some, None, Option, sym, refl, ap, ◌∙◌, subst, arith}
+use Rattle.std.proofs.Common.{◌≡◌, ℕ, zero, suc, ◌+◌, Bool, true, false, cond, not, List, [], ◌∷◌, map, get_or, Some, None, Option, sym, refl, ap, ◌∙◌, arith}
 use Rattle.std.specs.Option.{option_map}
 use Rattle.transfer.specs.Drafts.{TransferModel}
 use Rattle.transfer.specs.Outcomes.{OutcomeModel}
@@ -24,7 +24,7 @@ use Rattle.law.proofs.Alone.Statements.{opened_ports}
 use Rattle.law.proofs.Law.Contests.{same_of}
 use Rattle.law.proofs.Law.Race.{at}
 use Rattle.law.proofs.View.Booked.{contenders, contenders_legal, contests_of}
-use Rattle.law.proofs.View.Carries.{LegalIf, AllLegal, carry, carry_all, lead, lead_legal, least_is, same_ranks}
+use Rattle.law.proofs.View.Carries.{LegalIf, carry, lead, lead_legal, least_is, same_ranks}
 use Rattle.law.proofs.View.Lawful.{legal_at}
 use Rattle.law.proofs.View.Morphisms.{idle_same}
 use Rattle.law.proofs.View.Ranks.{carried_at}
