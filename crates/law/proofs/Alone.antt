@@ -15,3 +15,7 @@ pub mod Told
 pub mod StringLaws
 pub mod ByteLaws
 pub mod Idle
+pub mod Acknowledged
+pub mod Noted
+pub mod Reached
+pub mod HandedOver

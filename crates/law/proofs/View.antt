@@ -12,3 +12,8 @@ pub mod Counted
 pub mod InTicks
 pub mod Lawful
 pub mod Beginning
+pub mod Morphisms
+pub mod Noting
+pub mod Alongside
+pub mod Winners
+pub mod Asked

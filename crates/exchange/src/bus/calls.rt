@@ -1,6 +1,7 @@
 // The calls of a bus.
 ghost use Rattle.std.specs.Prelude.{◌≡◌, ◌≤◌, length};
 ghost use Rattle.transfer.specs.Refusals.{answer};
+ghost use Rattle.law.specs.Asked.{EveryAsked};
 ghost use Rattle.law.specs.Buses.{made, arm_at, Holds, tick_at, is_at_rest};
 ghost use Rattle.law.specs.Facts.{StringLaws, ByteLaws};
 ghost use Rattle.law.specs.Laws.{EveryUse};
@@ -24,6 +25,7 @@ impl<M: Masters, P: Ports> Bus<M, P> {
         ensures law { EveryUse M.Masters.hosts P.Ports.devices (M.Masters.stand masters) (P.Ports.stand ports) }
         ensures strings { StringLaws P.Ports.devices P.Ports.devices }
         ensures bytes { ByteLaws P.Ports.devices }
+        ensures asked { EveryAsked M.Masters.hosts P.Ports.devices (M.Masters.stand masters) (P.Ports.stand ports) }
     {
         masters.reset();
         ports.reset();

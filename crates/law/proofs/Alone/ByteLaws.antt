@@ -121,7 +121,7 @@ all_gave (b ∷ ds) e k h =
 low_ones : (k : ℕ) → k < 8 → digit 255 k ≡ true
 low_ones k h = let e : 7 - (7 - k) ≡ k = omega arith in rw e at (ones (7 - k) (lt-ltb (7 - k) 8 (omega arith)))
 
-mask : (x : ℕ) → x < 256 → bit_and x 255 ≡ x
+pub mask : (x : ℕ) → x < 256 → bit_and x 255 ≡ x
 mask x h = and_mask x 8 ∙ mod-eq_of_lt h
 
 none_gave : (ds : List Behaviour) (e : Bank Taking ds) → somebody ds e ≡ false → byte_given ds e ≡ 255

@@ -1,5 +1,6 @@
 use Rattle.law.proofs.Alone.ByteLaws.{byte_laws}
 use Rattle.law.proofs.Alone.StringLaws.{string_laws}
+use Rattle.law.proofs.View.Asked.{every_asked}
 use Rattle.law.proofs.View.Beginning.{every_use_lawful}
 use Rattle.std.proofs.Common.{rules}
 use Rattle.exchange.proofs.bus.Bus.new.Goals as goal
@@ -13,4 +14,5 @@ returns g c =
       law = every_use_lawful hs ds (g.M.Masters.stand c.args.masters) (g.P.Ports.stand c.args.ports) (g.met.M.Masters.clocked c.args.masters);
       strings = string_laws ds ds;
       bytes = byte_laws ds;
+      asked = every_asked hs ds (g.M.Masters.stand c.args.masters) (g.P.Ports.stand c.args.ports) (g.met.M.Masters.clocked c.args.masters);
     }

@@ -1,0 +1,285 @@
+-- A transfer played alone, at the acknowledge of a written byte: the ports are those of the leg's devices after the bytes up to this one, and somebody is in.
+use Rattle.std.proofs.Common.{◌≡◌, ℕ, zero, suc, ◌+◌, ◌*◌, ◌<◌, ◌≤◌, Bool, true, false, cond, List, [], ◌∷◌, ◌++◌, length, take, get_or, map, Some, None, Option, sym, refl, ap, ◌∙◌, subst, arith}
+use Rattle.std.proofs.Math.ListN.{get_or-map}
+use Rattle.transfer.specs.declared.leg.Direction.TheVariants.{Write}
+use Rattle.transfer.specs.declared.outcome.OutcomeKind.{OutcomeKind}
+use Rattle.transfer.specs.declared.outcome.OutcomeKind.TheVariants.{Done, NoAnswer, Refused}
+use Rattle.transfer.specs.Drafts.{TransferModel}
+use Rattle.transfer.specs.Legs.{BodyModel, writes, reads, LegModel, body_size, body_direction}
+use Rattle.transfer.specs.Octets.{Octets}
+use Rattle.device.specs.Behaviours.{Behaviour}
+use Rattle.master.specs.Cursors.{sends, at, CursorModel, opening_of}
+use Rattle.master.specs.Scripts.{Script, transfers}
+use Rattle.port.specs.Ports.{PortModel}
+use Rattle.law.specs.Asked.{leg_of, acknowledge_at}
+use Rattle.law.specs.Banks.{Bank, each}
+use Rattle.law.specs.Carrying.{Placed, Taking, taken_from, settled, call_byte, byte_levels, Passed, ends, somebody, written, read, passed_body, passed, carried_on, carried}
+use Rattle.law.specs.Facts.{having, write_leg}
+use Rattle.law.specs.Legal.{LegalLeg, LegalSecond, Legal}
+use Rattle.law.specs.Strings.{Letter, zero as low, stop, restart, one, rank, bit_letter}
+use Rattle.law.proofs.Sides.{Side, ends as ends_with, heard, after, string, last}
+use Rattle.law.proofs.Alone.ByteLaws.{took, ninth, later, nine}
+use Rattle.law.proofs.Alone.CarriedAlone.{carried_alone}
+use Rattle.law.proofs.Alone.Legs.{calls, notes, closing, address_plays, written_plays, leg_plays}
+use Rattle.law.proofs.Alone.Phases.{addressing_at, writing_at, acknowledging_at, called_for, put_to_all, write_on, opened_is}
+use Rattle.law.proofs.Alone.PortsSide.{ports_side}
+use Rattle.law.proofs.Alone.Runs.{Carries, low_bits, level_slot, Slot}
+use Rattle.law.proofs.Alone.SlotsLeft.{slots_left}
+use Rattle.law.proofs.Alone.Statements.{opened_ports}
+
+-- the slots of given levels
+module _ (W : Script) (D : Side) where
+  abbrev play : D.S → List Bool → D.S
+  play s [] = s
+  play s (b ∷ bs) = play (D.bit s b) bs
+
+  play_on : (bs cs : List Bool) (s : D.S) → play s (bs ++ cs) ≡ play (play s bs) cs
+  play_on [] cs s = refl
+  play_on (b ∷ bs) cs s = play_on bs cs (D.bit s b)
+
+  play_next : (m : ℕ) (bs : List Bool) (s : D.S) → m < length bs → play s (take (suc m) bs) ≡ D.bit (play s (take m bs)) (get_or bs m true)
+  play_next m [] s h = absurd (omega arith)
+  play_next zero (b ∷ bs) s h = refl
+  play_next (suc m) (b ∷ bs) s h = play_next m bs (D.bit s b) (omega arith)
+
+  plays_to : (bs : List Bool) (c : W.Cursor) (s u : D.S) → Carries W D c s bs (λ q v. v ≡ u) → play s bs ≡ u
+  plays_to [] c s u h = h
+  plays_to (b ∷ bs) c s u h = plays_to bs (W.next c b) (D.bit s b) u h.1
+
+  one_slot : (k : ℕ) (c : W.Cursor) (s v : D.S) (b : Bool) → Slot D (W.symbol c) s (bit_letter b) b v → last W D (suc k) c s ≡ last W D k (W.next c b) v
+  one_slot k c s v b h = rw (h.open_is, h.heard_is, h.after_is)
+
+  -- in these slots
+  last_in : (m : ℕ) (bs : List Bool) (K : W.Cursor → D.S → Type 0) (c : W.Cursor) (s : D.S) → m ≤ length bs → Carries W D c s bs K → last W D m c s ≡ play s (take m bs)
+  last_in zero bs K c s h k = refl
+  last_in (suc m) [] K c s h k = absurd (omega arith)
+  last_in (suc m) (b ∷ bs) K c s h k = one_slot m c s (D.bit s b) b (level_slot D (W.symbol c) s b k.0) ∙ last_in m bs K (W.next c b) (D.bit s b) (omega arith) k.1
+
+  -- past them
+  last_past : (m n : ℕ) (bs : List Bool) (c : W.Cursor) (s u : D.S) → n ≡ length bs + m → Carries W D c s bs (λ q v. last W D m q v ≡ u) → last W D n c s ≡ u
+  last_past m n [] c s u e h = let z : n ≡ m = omega arith in ap (λ j. last W D j c s) z ∙ h
+  last_past m zero (b ∷ bs) c s u e h = absurd (omega arith)
+  last_past m (suc n) (b ∷ bs) c s u e h = one_slot n c s (D.bit s b) b (level_slot D (W.symbol c) s b h.0) ∙ last_past m n bs (W.next c b) (D.bit s b) u (omega arith) h.1
+
+  longer_either : (v : Bool) (j : ℕ) (ts us : List ℕ) → (get_or ts j 3 ≡ 0 → get_or us j 3 ≡ 0) → get_or (cond v [] ts) j 3 ≡ 0 → get_or (cond v [] us) j 3 ≡ 0
+  longer_either true j ts us g e = e
+  longer_either false j ts us g e = g e
+
+  -- a letter of fewer slots is one of more
+  string_longer : (k n j : ℕ) (c : W.Cursor) (s : D.S) → k ≤ n → get_or (string W D k c s) j 3 ≡ 0 → get_or (string W D n c s) j 3 ≡ 0
+  string_longer zero n zero c s h e = absurd (omega arith)
+  string_longer zero n (suc j) c s h e = absurd (omega arith)
+  string_longer (suc k) zero j c s h e = absurd (omega arith)
+  string_longer (suc k) (suc n) zero c s h e = e
+  string_longer (suc k) (suc n) (suc j) c s h e = let u = after D (W.symbol c) s in let q = W.next c (heard D (W.symbol c) s) in
+      longer_either (ends_with (W.symbol c)) j (string W D k q u) (string W D n q u) (λ z. string_longer k n j q u (omega arith) z) e
+
+-- letters and levels
+low_there : (ls : List Bool) (i : ℕ) → get_or ls i true ≡ false → i < length ls
+low_there [] i e = cc
+low_there (v ∷ ls) zero e = omega arith
+low_there (v ∷ ls) (suc i) e = let z = low_there ls i e in omega arith
+
+low_level : (ls : List Bool) (us : List Letter) (i : ℕ) → i < length ls → get_or (map bit_letter ls ++ us) i one ≡ low → get_or ls i true ≡ false
+low_level [] us i h e = absurd (omega arith)
+low_level (true ∷ ls) us zero h e = cc
+low_level (false ∷ ls) us zero h e = refl
+low_level (v ∷ ls) us (suc i) h e = low_level ls us i (omega arith) e
+
+low_before_stop : (ls : List Bool) (i : ℕ) → get_or (map bit_letter ls ++ (stop ∷ [])) i one ≡ low → get_or ls i true ≡ false
+low_before_stop [] zero e = cc
+low_before_stop [] (suc i) e = cc
+low_before_stop (true ∷ ls) zero e = cc
+low_before_stop (false ∷ ls) zero e = refl
+low_before_stop (v ∷ ls) (suc i) e = low_before_stop ls i e
+
+past_restart : (ls : List Bool) (us : List Letter) (i n : ℕ) → n ≡ suc (length ls + i) → get_or (map bit_letter ls ++ (restart ∷ us)) n one ≡ get_or us i one
+past_restart [] us i zero h = absurd (omega arith)
+past_restart [] us i (suc n) h = let z : n ≡ i = omega arith in ap (λ m. get_or us m one) z
+past_restart (v ∷ ls) us i zero h = absurd (omega arith)
+past_restart (v ∷ ls) us i (suc n) h = past_restart ls us i n (omega arith)
+
+low_rank : (x : Letter) → rank x ≡ 0 → x ≡ low
+low_rank x h = grind arith
+
+module _ (ds : List Behaviour) where
+  -- at most n levels, and n where the leg is done
+  record Long (n : ℕ) (r : Passed ds) : Type 0 where
+    pub most : length r.levels ≤ n
+    pub all : r.kind ≡ Done → length r.levels ≡ n
+
+  longer_by : (n x : ℕ) (r s : Passed ds) (t : Bool) → s.levels ≡ [] → (s.kind ≡ Done → ⊥) → Long n r → Long (9 + n) (took ds x r s t)
+  longer_by n x r s true p q h = record { most = omega (arith, h.most); all = λ k. omega (arith, h.all k) }
+  longer_by n x r s false p q h = record { most = omega (arith, ap length p); all = λ k. absurd (q k) }
+
+  write_long : (l : ℕ) (xs : List ℕ) (n : ℕ) (e : Bank Taking ds) → Long (9 * length xs) (written ds l xs n e)
+  write_long l [] n e = record { most = omega arith; all = λ k. refl }
+  write_long l (x ∷ xs) n e = let w = put_to_all ds x e in let r = written ds l xs (suc n) w in let s = ends ds (Refused (record { leg = l; byte = n })) w in
+      let m : 9 + 9 * length xs ≡ 9 * suc (length xs) = omega arith in
+      subst (λ k. Long k (took ds x r s (somebody ds w))) m (longer_by (9 * length xs) x r s (somebody ds w) refl (λ k. cc) (write_long l xs (suc n) w))
+
+  read_long : (n : ℕ) (e : Bank Taking ds) → Long (9 * n) (read ds n e)
+  read_long zero e = record { most = omega arith; all = λ k. refl }
+  read_long (suc n) e = let h = read_long n (each taken_from ds e) in let q = h.most in record { most = omega arith; all = λ k. let z = h.all k in omega arith }
+
+  body_long : (l : ℕ) (b : BodyModel) (e : Bank Taking ds) → Long (9 * body_size b) (passed_body ds l b e)
+  body_long l (writes xs) e = write_long l xs 0 e
+  body_long l (reads n) e = read_long n e
+
+  leg_long : (l : ℕ) (g : LegModel) (d : Bank Placed ds) → Long (9 * suc (body_size g.body)) (passed ds l g d)
+  leg_long l g d = let e = called_for ds g.address (body_direction g.body) d in
+      let m : 9 + 9 * body_size g.body ≡ 9 * suc (body_size g.body) = omega arith in
+      subst (λ k. Long k (passed ds l g d)) m
+      (longer_by (9 * body_size g.body) (call_byte g.address g.body) (passed_body ds l g.body e) (ends ds (NoAnswer (record { leg = l })) e) (somebody ds e) refl (λ k. cc) (body_long l g.body e))
+
+  abbrev E : Side
+  E = ports_side ds
+
+  abbrev plays : Bank PortModel ds → List Bool → Bank PortModel ds
+  plays s bs = play transfers E s bs
+
+  -- the bits of a written byte
+  bits_put : (x : ℕ) (w : Bank Taking ds) → x < 256 → plays (each (writing_at 0 0) ds w) (low_bits 8 x []) ≡ each (acknowledging_at Write) ds (put_to_all ds x w)
+  bits_put x w h = plays_to transfers E (low_bits 8 x []) (at (sends (write_leg 0 (x ∷ [])) None 1 0) (notes 0 [] 0 Done)) (each (writing_at 0 0) ds w) (each (acknowledging_at Write) ds (put_to_all ds x w))
+      (written_plays ds None (λ c u. u ≡ each (acknowledging_at Write) ds (put_to_all ds x w)) 0 (x ∷ []) 0 x (notes 0 [] 0 Done) w [] refl h refl)
+
+  -- and its acknowledge
+  byte_put : (x : ℕ) (w : Bank Taking ds) → x < 256 → plays (each (writing_at 0 0) ds w) (byte_levels x false) ≡ each (writing_at 0 0) ds (put_to_all ds x w)
+  byte_put x w h = play_on transfers E (low_bits 8 x []) (false ∷ []) (each (writing_at 0 0) ds w) ∙ (ap (λ u. E.bit u false) (bits_put x w h) ∙ write_on ds (put_to_all ds x w) false)
+
+  leg_called : (a : ℕ) (d : Bank Placed ds) → a < 128 → plays (each (addressing_at 0 0) ds d) (byte_levels (a * 2) false) ≡ each (writing_at 0 0) ds (called_for ds a Write d)
+  leg_called a d h =
+      let u = each (acknowledging_at Write) ds (called_for ds a Write d) in
+      let z : plays (each (addressing_at 0 0) ds d) (low_bits 8 (a * 2) []) ≡ u =
+      plays_to transfers E (low_bits 8 (a * 2) []) (at (sends (write_leg a []) None 0 0) (notes 0 [] 0 Done)) (each (addressing_at 0 0) ds d) u
+      (address_plays ds None (λ c w. w ≡ u) (write_leg a []) (a * 2) (notes 0 [] 0 Done) d [] (calls a (writes []) h) refl) in
+      play_on transfers E (low_bits 8 (a * 2) []) (false ∷ []) (each (addressing_at 0 0) ds d) ∙ (ap (λ w. E.bit w false) z ∙ write_on ds (called_for ds a Write d) false)
+
+  -- the bits of a byte that somebody took, and the levels after its acknowledge
+  at_bits : (x : ℕ) (r s : Passed ds) (t : Bool) (p q : Bank PortModel ds) → t ≡ true → plays p (low_bits 8 x []) ≡ q → plays p (take 8 (took ds x r s t).levels) ≡ q
+  at_bits x r s true p q e f = f
+  at_bits x r s false p q e f = cc
+
+  after_bits : (x m : ℕ) (r s : Passed ds) (t : Bool) (p q u : Bank PortModel ds) → t ≡ true → plays p (byte_levels x false) ≡ q → plays q (take m r.levels) ≡ u →
+      plays p (take (suc (suc (suc (suc (suc (suc (suc (suc (suc m))))))))) (took ds x r s t).levels) ≡ u
+  after_bits x m r s true p q u e f h = ap (λ v. plays v (take m r.levels)) f ∙ h
+  after_bits x m r s false p q u e f h = cc
+
+  someone_took : (x : ℕ) (r s : Passed ds) (t : Bool) (k : ℕ) → s.levels ≡ [] → get_or (took ds x r s t).levels (suc (suc (suc (suc (suc (suc (suc (suc (suc k))))))))) true ≡ false → t ≡ true
+  someone_took x r s t k e h = grind arith
+
+  -- before the acknowledge counts of which these levels are the first, somebody of these devices is in, and each port is to acknowledge
+  abbrev Acknowledging : Bank PortModel ds → List Bool → Bank Taking ds → Type 0
+  Acknowledging p ls w = (somebody ds w ≡ true) × (plays p ls ≡ each (acknowledging_at Write) ds w)
+
+  put_played : (l : ℕ) (xs : List ℕ) (n : ℕ) (e : Bank Taking ds) (y : ℕ) → Octets xs → y < length xs → get_or (written ds l xs n e).levels (9 * y + 8) true ≡ false →
+      Acknowledging (each (writing_at 0 0) ds e) (take (9 * y + 8) (written ds l xs n e).levels) (having ds (take (suc y) xs) e)
+  put_played l [] n e y o h q = absurd (omega arith)
+  put_played l (x ∷ xs) n e zero o h q = let w = put_to_all ds x e in let r = written ds l xs (suc n) w in let s = ends ds (Refused (record { leg = l; byte = n })) w in
+      let t : somebody ds w ≡ true = ninth ds x r s (somebody ds w) q in
+      (t, at_bits x r s (somebody ds w) (each (writing_at 0 0) ds e) (each (acknowledging_at Write) ds w) t (bits_put x e (o 0)))
+  put_played l (x ∷ xs) n e (suc y) o h q = let w = put_to_all ds x e in let r = written ds l xs (suc n) w in let s = ends ds (Refused (record { leg = l; byte = n })) w in
+      let p : get_or (took ds x r s (somebody ds w)).levels (suc (suc (suc (suc (suc (suc (suc (suc (suc (9 * y + 8)))))))))) true ≡ false = rw (nine y) at q in
+      let z = put_played l xs (suc n) w y (λ j. o (suc j)) (omega arith) (later ds x r s (somebody ds w) (9 * y + 8) refl p) in (
+        z.0,
+        ap (λ m. plays (each (writing_at 0 0) ds e) (take m (took ds x r s (somebody ds w)).levels)) (nine y) ∙
+            after_bits x (9 * y + 8) r s (somebody ds w) (each (writing_at 0 0) ds e) (each (writing_at 0 0) ds w) (each (acknowledging_at Write) ds (having ds (take (suc y) xs) w))
+            (someone_took x r s (somebody ds w) (9 * y + 8) refl p) (byte_put x e (o 0)) z.1,
+      )
+
+  leg_played : (l a : ℕ) (xs : List ℕ) (d : Bank Placed ds) (y : ℕ) → a < 128 → Octets xs → y < length xs → get_or (passed ds l (write_leg a xs) d).levels (9 * suc y + 8) true ≡ false →
+      Acknowledging (each (addressing_at 0 0) ds d) (take (9 * suc y + 8) (passed ds l (write_leg a xs) d).levels) (having ds (take (suc y) xs) (called_for ds a Write d))
+  leg_played l a xs d y n o h q = let e = called_for ds a Write d in let r = written ds l xs 0 e in let s = ends ds (NoAnswer (record { leg = l })) e in
+      let p : get_or (took ds (a * 2) r s (somebody ds e)).levels (suc (suc (suc (suc (suc (suc (suc (suc (suc (9 * y + 8)))))))))) true ≡ false = rw (nine y) at q in
+      let z = put_played l xs 0 e y o h (later ds (a * 2) r s (somebody ds e) (9 * y + 8) refl p) in (
+        z.0,
+        ap (λ m. plays (each (addressing_at 0 0) ds d) (take m (took ds (a * 2) r s (somebody ds e)).levels)) (nine y) ∙
+            after_bits (a * 2) (9 * y + 8) r s (somebody ds e) (each (addressing_at 0 0) ds d) (each (writing_at 0 0) ds e) (each (acknowledging_at Write) ds (having ds (take (suc y) xs) e))
+            (someone_took (a * 2) r s (somebody ds e) (9 * y + 8) refl p) (leg_called a d n) z.1,
+      )
+
+  abbrev up_to : ℕ → CursorModel → Bank PortModel ds → Bank PortModel ds
+  up_to m c s = last transfers E m c s
+
+  abbrev starts : Bank Placed ds → Bank PortModel ds
+  starts d = each (addressing_at 0 0) ds d
+
+  -- after m slots, and one more, the ports are those of devices that were called at address a, and to which the bytes ys were put, somebody still in
+  pub record HasPut (m : ℕ) (c : CursorModel) (s : Bank PortModel ds) (a : ℕ) (ys : List ℕ) : Type 0 where
+    pub before : Bank Placed ds
+    pub some : somebody ds (having ds ys (called_for ds a Write before)) ≡ true
+    pub now : up_to m c s ≡ each (acknowledging_at Write) ds (having ds ys (called_for ds a Write before))
+    pub then : up_to (suc m) c s ≡ each (writing_at 0 0) ds (having ds ys (called_for ds a Write before))
+
+  -- some slots of a leg
+  in_leg : (g : LegModel) (l : ℕ) (o : Option LegModel) (ys : List ℕ) (d : Bank Placed ds) (m : ℕ) → LegalLeg g → m ≤ length (passed ds l g d).levels →
+      up_to m (at (sends g o 0 0) (notes l ys 0 Done)) (starts d) ≡ plays (starts d) (take m (passed ds l g d).levels)
+  in_leg g l o ys d m h n = last_in transfers E m (passed ds l g d).levels (λ c u. Unit {0}) (at (sends g o 0 0) (notes l ys 0 Done)) (starts d) n (leg_plays ds o (λ c u. Unit {0}) g l ys d h (λ u q. tt))
+
+  leg_put : (l a : ℕ) (xs : List ℕ) (o : Option LegModel) (ys : List ℕ) (d : Bank Placed ds) (y : ℕ) → LegalLeg (write_leg a xs) → y < length xs →
+      get_or (passed ds l (write_leg a xs) d).levels (9 * suc y + 8) true ≡ false → HasPut (9 * suc y + 8) (at (sends (write_leg a xs) o 0 0) (notes l ys 0 Done)) (starts d) a (take (suc y) xs)
+  leg_put l a xs o ys d y g h q = let ls = (passed ds l (write_leg a xs) d).levels in let m = 9 * suc y + 8 in let w = having ds (take (suc y) xs) (called_for ds a Write d) in
+      let n = low_there ls m q in
+      let z = leg_played l a xs d y (omega (arith, g.most)) g.within.0 h q in
+      record {
+        before = d;
+        some = z.0;
+        now = in_leg (write_leg a xs) l o ys d m g (omega arith) ∙ z.1;
+        then = in_leg (write_leg a xs) l o ys d (suc m) g (omega arith) ∙ (play_next transfers E m ls (starts d) n ∙ (ap (E.bit (plays (starts d) (take m ls))) q ∙ (ap (λ u. E.bit u false) z.1 ∙ write_on ds w false)));
+      }
+
+  -- leg 0
+  first_put : (a : ℕ) (xs : List ℕ) (o : Option LegModel) (d : Bank Placed ds) (y : ℕ) → LegalLeg (write_leg a xs) → y < length xs → let r = passed ds 0 (write_leg a xs) d in
+      (k : OutcomeKind) → r.kind ≡ k → get_or (carried_on ds r k o).letters (9 * suc y + 8) one ≡ low → HasPut (9 * suc y + 8) (at (sends (write_leg a xs) o 0 0) (notes 0 [] 0 Done)) (starts d) a (take (suc y) xs)
+  first_put a xs o d y g h (NoAnswer p) e q = leg_put 0 a xs o [] d y g h (low_before_stop (passed ds 0 (write_leg a xs) d).levels (9 * suc y + 8) q)
+  first_put a xs o d y g h (Refused p) e q = leg_put 0 a xs o [] d y g h (low_before_stop (passed ds 0 (write_leg a xs) d).levels (9 * suc y + 8) q)
+  first_put a xs None d y g h Done e q = leg_put 0 a xs None [] d y g h (low_before_stop (passed ds 0 (write_leg a xs) d).levels (9 * suc y + 8) q)
+  first_put a xs (Some f) d y g h Done e q =
+      let r = passed ds 0 (write_leg a xs) d in let z = (leg_long 0 (write_leg a xs) d).all e in let s = passed ds 1 f (each settled ds r.devices) in
+      leg_put 0 a xs (Some f) [] d y g h (low_level r.levels (restart ∷ (map bit_letter s.levels ++ (stop ∷ []))) (9 * suc y + 8) (omega arith) q)
+
+  -- a leg, the repeated start, and some slots of the next
+  past_leg : (g f : LegModel) (d : Bank Placed ds) (m n : ℕ) → LegalLeg g → let r = passed ds 0 g d in let w = each settled ds r.devices in
+      r.kind ≡ Done → n ≡ length r.levels + suc m → up_to n (at (sends g (Some f) 0 0) (notes 0 [] 0 Done)) (starts d) ≡ up_to m (at (sends f None 0 0) (notes 1 r.bytes 0 Done)) (starts w)
+  past_leg g f d m n h k e = let r = passed ds 0 g d in let w = each settled ds r.devices in let v = up_to m (at (sends f None 0 0) (notes 1 r.bytes 0 Done)) (starts w) in
+      last_past transfers E (suc m) n r.levels (at (sends g (Some f) 0 0) (notes 0 [] 0 Done)) (starts d) v e
+      (leg_plays ds (Some f) (λ c u. up_to (suc m) c u ≡ v) g 0 [] d h
+      (λ u q. subst (λ z. up_to (suc m) (closing z (Some f) (notes 0 r.bytes 0 z)) u ≡ v) (sym k) (ap (up_to m (at (sends f None 0 0) (notes 1 r.bytes 0 Done))) q.start)))
+
+  -- leg 1
+  second_put : (g : LegModel) (a : ℕ) (xs : List ℕ) (d : Bank Placed ds) (y : ℕ) → LegalLeg g → LegalLeg (write_leg a xs) → y < length xs → let r = passed ds 0 g d in let n = 9 * suc (body_size g.body) + suc (9 * suc y + 8) in
+      (k : OutcomeKind) → r.kind ≡ k → get_or (carried_on ds r k (Some (write_leg a xs))).letters n one ≡ low → HasPut n (at (sends g (Some (write_leg a xs)) 0 0) (notes 0 [] 0 Done)) (starts d) a (take (suc y) xs)
+  second_put g a xs d y j f h (NoAnswer p) e q = let r = passed ds 0 g d in let n = 9 * suc (body_size g.body) + suc (9 * suc y + 8) in let z = (leg_long 0 g d).most in let u = low_there r.levels n (low_before_stop r.levels n q) in absurd (omega arith)
+  second_put g a xs d y j f h (Refused p) e q = let r = passed ds 0 g d in let n = 9 * suc (body_size g.body) + suc (9 * suc y + 8) in let z = (leg_long 0 g d).most in let u = low_there r.levels n (low_before_stop r.levels n q) in absurd (omega arith)
+  second_put g a xs d y j f h Done e q =
+      let r = passed ds 0 g d in let w = each settled ds r.devices in let s = passed ds 1 (write_leg a xs) w in
+      let z = (leg_long 0 g d).all e in
+      let u = leg_put 1 a xs None r.bytes w y f h (low_before_stop s.levels (9 * suc y + 8)
+      (sym (past_restart r.levels (map bit_letter s.levels ++ (stop ∷ [])) (9 * suc y + 8) (9 * suc (body_size g.body) + suc (9 * suc y + 8)) (omega arith)) ∙ q)) in
+      record {
+        before = u.before;
+        some = u.some;
+        now = past_leg g (write_leg a xs) d (9 * suc y + 8) (9 * suc (body_size g.body) + suc (9 * suc y + 8)) j e (omega arith) ∙ u.now;
+        then = past_leg g (write_leg a xs) d (suc (9 * suc y + 8)) (suc (9 * suc (body_size g.body) + suc (9 * suc y + 8))) j e (omega arith) ∙ u.then;
+      }
+
+  transfer_put : (t : TransferModel) (d : Bank Placed ds) (k y a : ℕ) (xs : List ℕ) → Legal t → leg_of t k ≡ Some (write_leg a xs) → y < length xs →
+      get_or (carried ds t d).letters (acknowledge_at t k y) one ≡ low → HasPut (acknowledge_at t k y) (opening_of t) (starts d) a (take (suc y) xs)
+  transfer_put t d zero y a xs g e h q = let z : t.first ≡ write_leg a xs = cc in
+      subst (λ w. LegalLeg w → get_or (carried ds (record { first = w; second = t.second }) d).letters (9 * suc y + 8) one ≡ low → HasPut (9 * suc y + 8) (at (sends w t.second 0 0) (notes 0 [] 0 Done)) (starts d) a (take (suc y) xs))
+      (sym z) (λ l. first_put a xs t.second d y l h (passed ds 0 (write_leg a xs) d).kind refl) g.first_leg q
+  transfer_put t d (suc zero) y a xs g e h q = let n = 9 * suc (body_size t.first.body) + suc (9 * suc y + 8) in
+      subst (λ o. LegalSecond o → get_or (carried ds (record { first = t.first; second = o }) d).letters n one ≡ low → HasPut n (at (sends t.first o 0 0) (notes 0 [] 0 Done)) (starts d) a (take (suc y) xs))
+      (sym e) (λ l. second_put t.first a xs d y g.first_leg l h (passed ds 0 t.first d).kind refl) g.second_leg q
+  transfer_put t d (suc (suc k)) y a xs g e h q = cc
+
+  -- within some slots a letter is the carried string's
+  pub low_carried : (t : TransferModel) (d : Bank Placed ds) (i j : ℕ) → Legal t → get_or (string transfers E i (opening_of t) (opened_ports ds d)) j 3 ≡ 0 → get_or (carried ds t d).letters j one ≡ low
+  low_carried t d i j g q = let n = i + slots_left (opening_of t) in
+      let z = string_longer transfers E i n j (opening_of t) (opened_ports ds d) (omega arith) q in
+      low_rank (get_or (carried ds t d).letters j one)
+      (sym (get_or-map rank (carried ds t d).letters j one) ∙ (sym (ap (λ l. get_or l j 3) (carried_alone ds t d n g (omega arith)).same_letters) ∙ z))
+
+  pub acknowledged : (t : TransferModel) (d : Bank Placed ds) (k y a : ℕ) (xs : List ℕ) → Legal t → leg_of t k ≡ Some (write_leg a xs) → y < length xs →
+      get_or (carried ds t d).letters (acknowledge_at t k y) one ≡ low → HasPut (acknowledge_at t k y) (opening_of t) (opened_ports ds d) a (take (suc y) xs)
+  acknowledged t d k y a xs g e h q = subst (λ s. HasPut (acknowledge_at t k y) (opening_of t) s a (take (suc y) xs)) (sym (opened_is ds d)) (transfer_put t d k y a xs g e h q)
