@@ -85,5 +85,5 @@ module _ {D : Type 0} (device : Ghosts D) where
   AskedBy x (s ∷ ss) v h z = (y : D) × device.went x s y × AskedBy y ss v h z
 
   -- what a tick makes of the device of a port, where hold answers h
-  abbrev pub PortAsked : Port D → Signal → ℕ → D → Type 0
-  PortAsked p s h z = let m = port_model device p in AskedBy p.device (asks device.behaviour m s) (asks_hold device.behaviour m s) h z
+  abbrev pub PortAsked : Port D → Signal → ℕ → Port D → Type 0
+  PortAsked p s h q = let m = port_model device p in AskedBy p.device (asks device.behaviour m s) (asks_hold device.behaviour m s) h q.device

@@ -1,6 +1,6 @@
 // How a port steps, and what it asks its device.
 ghost use Rattle.std.specs.Prelude.{◌≡◌, true, false, not};
-ghost use Rattle.port.specs.Ports.{ForSomeHold, port_new, port_model, mode_pulls, port_pulls, counts, reads_on, settles, port_step, new_port};
+ghost use Rattle.port.specs.Ports.{ForSomeHold, SameDevice, port_new, port_model, mode_pulls, port_pulls, counts, reads_on, settles, port_step, new_port};
 ghost use Rattle.port.specs.Asks.{asks_finish, asks_at_bit, asks_take, asks_hold_at_bit, AskedBy, PortAsked, MayAnswer};
 ghost use Rattle.port.specs.declared.port.Mode.TheVariants.{Addressing, Writing, Reading};
 
@@ -49,7 +49,7 @@ impl<D: Device> Port<D> {
     }
 
     pub fn reset(&mut self)
-        ensures device { self.new.device ≡ self.old.device }
+        ensures same { SameDevice self.old self.new }
         ensures after { port_model D.Device self.new ≡ port_new _ (port_model D.Device self.old) }
     {
         self.mode = Mode::Out;
@@ -68,7 +68,7 @@ impl<D: Device> Port<D> {
 
     // What it keeps of hold is an answer of its device, asked for once, where the rules ask for it, after every other step.
     pub fn step(&mut self, signal: Signal)
-        ensures { ForSomeHold (λ h. MayAnswer _ (port_model D.Device self.old) signal h × PortAsked D.Device self.old signal h self.new.device × (port_model D.Device self.new ≡ port_step _ (port_model D.Device self.old) signal h)) }
+        ensures { ForSomeHold (λ h. MayAnswer _ (port_model D.Device self.old) signal h × PortAsked D.Device self.old signal h self.new × (port_model D.Device self.new ≡ port_step _ (port_model D.Device self.old) signal h)) }
     {
         match (self.mode, signal.event, signal.bit) {
             (_, Event::Start, _) => self.settle(Mode::Addressing(Partial::of(0))),
