@@ -1,9 +1,10 @@
 -- The busy layer: after a selection in which a put got yes, the next selects answer no without asking below. Assumes nothing.
-use Rattle.std.specs.Prelude.{ℕ, ◌-◌, Bool, true, false, cond, ◌&&◌, ◌||◌, nat_lt}
+use Rattle.std.specs.Prelude.{◌≡◌, ℕ, ◌<◌, ◌-◌, Bool, true, false, cond, ◌&&◌, ◌||◌, nat_lt}
 use Rattle.device.specs.declared.busy.Busy.{Busy}
 use Rattle.device.specs.declared.busy.Selection.{Selection}
 use Rattle.device.specs.declared.busy.Selection.TheVariants.{Closed, Open, Written}
 use Rattle.device.specs.Behaviours.{Behaviour}
+use Rattle.device.specs.Steps.{Step, select, put, take, finish}
 
 abbrev pub is_inside : Selection → Bool
 is_inside Closed = false
@@ -14,6 +15,13 @@ abbrev pub has_written : Selection → Bool
 has_written Closed = false
 has_written Open = false
 has_written Written = true
+
+-- a step reaches the device below, once, unless it is a select that is refused
+abbrev pub BusyWent : {D : Type 0} → (D → Step → D → Type 0) → Busy D → Step → Busy D → Type 0
+BusyWent went x (select d v) z = (0 < x.left → z.device ≡ x.device) × (x.left ≡ 0 → went x.device (select d v) z.device)
+BusyWent went x (put n v) z = went x.device (put n v) z.device
+BusyWent went x (take n) z = went x.device (take n) z.device
+BusyWent went x finish z = went x.device finish z.device
 
 module _ (b : Behaviour) where
   pub record Busied : Type 0 where

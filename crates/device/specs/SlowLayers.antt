@@ -2,6 +2,15 @@
 use Rattle.std.specs.Prelude.{◌≡◌, ℕ, max}
 use Rattle.device.specs.declared.slow.Slow.{Slow}
 use Rattle.device.specs.Behaviours.{Behaviour}
+use Rattle.device.specs.Steps.{Step}
+
+-- a step reaches the device below, once
+abbrev pub SlowWent : {D : Type 0} → (D → Step → D → Type 0) → Slow D → Step → Slow D → Type 0
+SlowWent went x s z = (z.number ≡ x.number) × went x.device s z.device
+
+-- and so does hold
+abbrev pub SlowHeld : {D : Type 0} → (D → ℕ → D → Type 0) → Slow D → ℕ → Slow D → Type 0
+SlowHeld held x h z = (below : ℕ) × held x.device below z.device × (h ≡ max x.number below) × (z.number ≡ x.number)
 
 module _ (b : Behaviour) where
   pub record Slowed : Type 0 where

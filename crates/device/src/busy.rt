@@ -1,6 +1,6 @@
 // A layer that is busy for some selects after a selection that wrote.
 ghost use Rattle.std.specs.Prelude.{◌≡◌, false};
-ghost use Rattle.device.specs.BusyLayers.{busied, busy_over};
+ghost use Rattle.device.specs.BusyLayers.{busied, busy_over, BusyWent};
 
 use crate::device::Device;
 use transfer::Direction;
@@ -54,6 +54,10 @@ impl<D: Device> Device for Busy<D> {
     ghost behaviour = { busy_over D.Device.behaviour };
 
     ghost means = { busied D.Device.behaviour D.Device.means };
+
+    ghost went = { BusyWent D.Device.went };
+
+    ghost held = { λ x h z. D.Device.held x.device h z.device };
 
     fn select(&mut self, direction: Direction) -> bool {
         if self.left > 0 {

@@ -1,6 +1,6 @@
 // A layer that holds the clock for at least its own number of ticks.
 ghost use Rattle.std.specs.Prelude.{◌≡◌};
-ghost use Rattle.device.specs.SlowLayers.{slow_over, slowed};
+ghost use Rattle.device.specs.SlowLayers.{slow_over, slowed, SlowWent, SlowHeld};
 
 use crate::device::Device;
 use transfer::Direction;
@@ -31,6 +31,10 @@ impl<D: Device> Device for Slow<D> {
     ghost behaviour = { slow_over D.Device.behaviour };
 
     ghost means = { slowed D.Device.behaviour D.Device.means };
+
+    ghost went = { SlowWent D.Device.went };
+
+    ghost held = { SlowHeld D.Device.held };
 
     fn select(&mut self, direction: Direction) -> bool {
         self.device.select(direction)

@@ -18,5 +18,5 @@ pub loop-made-preserved : goal.loop-made-preserved
 loop-made-preserved g c =
     let hs = g.M.Masters.hosts in
     let ds = g.P.Ports.devices in
-    one_more hs ds c.args.masters c.loop-made._made (bus_model c.args.bus.now) (bus_model c.loop-made.bus) _ _ _ _ _ c.tick.ensures.0
-    c.loop-made.invariant c.ready.ensures c.tick.ensures.1 c.counted-count.ensures
+    one_more hs ds c.args.masters c.loop-made._made (bus_model c.args.bus.now) (bus_model c.loop-made.bus) _ _ _ _ _ c.tick.ensures.answered.0
+    c.loop-made.invariant c.ready.ensures c.tick.ensures.answered.2 c.counted-count.ensures
