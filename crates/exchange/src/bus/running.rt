@@ -12,8 +12,8 @@ use transfer::Refusal;
 const MOST_TICKS: u32 = 1_000_000;
 
 impl<M: Masters, P: Ports> Bus<M, P> {
-    // Ticks until the bus is at rest, `n` times at most. It counts its ticks by hand, since it is a rule of the project
-    // that a run is a loop that breaks with its counts.
+    // Ticks until the bus is at rest, `n` times at most. It counts its ticks by hand: a run may end at either, and its
+    // answer is these counts.
     pub fn run(&mut self, n: u32) -> Result<Run, Refusal>
         ensures answered { (a : ℕ → Holds P.Ports.devices) × RunAnswered _ _ (bus_model self.old) n a × ((answer run_model result, bus_model self.new) ≡ run_at _ _ (bus_model self.old) n a) }
         ensures unheld { NeverHold P.Ports.devices → (answer run_model result, bus_model self.new) ≡ run_at _ _ (bus_model self.old) n (λ _. no_holds P.Ports.devices) }
