@@ -1,6 +1,6 @@
--- The counter: it is read and not written, each byte read is how many were read before, modulo 256, and it may hold the
--- clock for up to 3 ticks. Assumes nothing.
-use Rattle.std.specs.Prelude.{ℕ, ◌+◌, ◌%◌, ◌≤◌, Bool, true, false}
+-- The counter: it is read and not written, each byte read is how many were read before, modulo 256, and it holds the clock
+-- for 0 to 3 ticks, one more after each byte. Assumes nothing.
+use Rattle.std.specs.Prelude.{◌≡◌, ℕ, ◌+◌, ◌%◌, Bool, true, false}
 use Rattle.device.specs.Behaviours.{Behaviour}
 use Rattle.transfer.specs.declared.leg.Direction.{Direction}
 use Rattle.transfer.specs.declared.leg.Direction.TheVariants.{Write, Read}
@@ -17,7 +17,7 @@ counter = record {
   put = λ m x. (false, m);
   take = λ m. (m, (m + 1) % 256);
   finish = λ m. m;
-  holds = λ m h. h ≤ 3;
+  holds = λ m h. h ≡ m % 4;
 }
 
 abbrev pub counted : Counter → ℕ
