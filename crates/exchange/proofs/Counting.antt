@@ -1,5 +1,5 @@
 -- A run counted tick by tick.
-use Rattle.std.proofs.Common.{◌≡◌, ℕ, zero, suc, ◌+◌, ◌-◌, ◌<◌, ◌≤◌, true, false, cond, ltb, ◌⊎◌, List, [], ◌∷◌, length, replicate, Ok, Err, sym, refl, ap, ◌∙◌, subst, add-one, arith, le-ltb, lt-ltb, is_some, Option}
+use Rattle.std.proofs.Common.{◌≡◌, ℕ, zero, suc, ◌+◌, ◌-◌, ◌<◌, ◌≤◌, true, false, cond, ltb, ◌⊎◌, inl, inr, List, [], ◌∷◌, length, replicate, Ok, Err, sym, refl, ap, ◌∙◌, subst, zero-add, add-one, arith, le-ltb, lt-ltb, is_some, Option}
 use Rattle.std.proofs.lemmas.List.Sums.{sum_by-cons}
 use Rattle.std.proofs.lemmas.List.Folds.{sum_by-replicate}
 use Rattle.transfer.specs.Outcomes.{OutcomeModel}
@@ -9,11 +9,11 @@ use Rattle.master.specs.declared.mark.Mark.{Mark}
 use Rattle.master.specs.declared.mark.Mark.TheVariants.{Quiet}
 use Rattle.wire.specs.declared.wire.Signal.{Signal}
 use Rattle.law.specs.Banks.{Bank, listed}
-use Rattle.law.specs.Buses.{BusModel, Holds, over, tick_at, told_at, is_at_rest}
+use Rattle.law.specs.Buses.{BusModel, Holds, Answered, no_holds, over, tick_at, told_at, is_at_rest}
 use Rattle.master.specs.Serving.{Served, mark_of, outcome_told, served_mark, served_told}
 use Rattle.master.specs.Masters.{VerdictModel, quiet, lost, told, master_step}
 use Rattle.master.specs.Scripts.{transfers}
-use Rattle.law.specs.Runs.{how_many, is_told, tolds, Running, setting_out, ticked, goes_on, load, run_at}
+use Rattle.law.specs.Runs.{how_many, is_told, tolds, Running, setting_out, ticked, goes_on, GoesOnAnswered, RunAnswered, load, run_at}
 
 told_marks : (v : VerdictModel transfers) (ms : List Mark) (os : List (Option OutcomeModel)) → tolds ms ≡ how_many os → tolds (mark_of v ∷ ms) ≡ how_many (outcome_told v ∷ os)
 told_marks quiet ms os e = e
@@ -29,19 +29,22 @@ tolds_are_all (b ∷ hs) s p zero h = absurd (omega arith)
 tolds_are_all (b ∷ hs) s p (suc k) h =
     told_marks (master_step transfers p.0.master s).1 (over (listed (λ h. served_mark h s) hs p.1) (replicate k Quiet)) (listed (λ h. served_told h s) hs p.1) (tolds_are_all hs s p.1 k (omega arith))
 
--- no device asks to hold
-no_holds : (ds : List Behaviour) → Holds ds
-no_holds [] = tt
-no_holds (d ∷ ds) = ((0, omega arith), no_holds ds)
-
 module _ (hs : List HostBehaviour) (ds : List Behaviour) where
   -- from u the run r is under way, whatever is answered after the answers a so far
-  abbrev pub Reached : BusModel hs ds → Running hs ds → Type 0
-  Reached u r = (a : ℕ → Holds ds) × ((b : ℕ → Holds ds) → ((k : ℕ) → k < r.ticks → b k ≡ a k) →
-      (m : ℕ) → goes_on hs ds (r.ticks + m) b (setting_out hs ds u) ≡ goes_on hs ds m b r)
+  pub record Reached (u : BusModel hs ds) (r : Running hs ds) : Type 0 where
+    pub answers : ℕ → Holds ds
+    pub on : (b : ℕ → Holds ds) → ((k : ℕ) → k < r.ticks → b k ≡ answers k) →
+        (m : ℕ) → goes_on hs ds (r.ticks + m) b (setting_out hs ds u) ≡ goes_on hs ds m b r
+    -- and so far they are ones that the devices may give
+    pub may : (b : ℕ → Holds ds) → ((k : ℕ) → k < r.ticks → b k ≡ answers k) →
+        (m : ℕ) → GoesOnAnswered hs ds m b r → GoesOnAnswered hs ds (r.ticks + m) b (setting_out hs ds u)
 
   pub reached_none : (u : BusModel hs ds) → Reached u (setting_out hs ds u)
-  reached_none u = ((λ k. no_holds ds), λ b e m. ap (λ n. goes_on hs ds n b (setting_out hs ds u)) (omega arith))
+  reached_none u = record {
+    answers = λ k. no_holds ds;
+    on = λ b e m. ap (λ n. goes_on hs ds n b (setting_out hs ds u)) (zero-add m);
+    may = λ b e m h. subst (λ n. GoesOnAnswered hs ds n b (setting_out hs ds u)) (sym (zero-add m)) h;
+  }
 
   then : (a : ℕ → Holds ds) → ℕ → Holds ds → ℕ → Holds ds
   then a t h k = cond (ltb k t) (a k) h
@@ -54,28 +57,36 @@ module _ (hs : List HostBehaviour) (ds : List Behaviour) where
   unfolding then
   then_at a t h = grind arith
 
-  ticked_on : (u : BusModel hs ds) (r : Running hs ds) (h : Holds ds) → is_at_rest hs ds r.bus ≡ false →
+  ticked_on : (u : BusModel hs ds) (r : Running hs ds) (h : Holds ds) → is_at_rest hs ds r.bus ≡ false → Answered hs ds r.bus h →
       Reached u r → Reached u (ticked hs ds r h)
-  ticked_on u r h up so = (
-    then so.0 r.ticks h,
-    λ b e m.
-        let before : (k : ℕ) → k < r.ticks → b k ≡ so.0 k = λ k lt. e k (omega arith) ∙ then_before so.0 r.ticks h k lt in
-        let here : b r.ticks ≡ h = e r.ticks (omega arith) ∙ then_at so.0 r.ticks h in
-        let n : suc r.ticks + m ≡ r.ticks + suc m = omega arith in
-        ap (λ n. goes_on hs ds n b (setting_out hs ds u)) n ∙ so.1 b before (suc m)
-        ∙ ap (λ v. cond v r (goes_on hs ds m b (ticked hs ds r (b r.ticks)))) up
-        ∙ ap (λ x. goes_on hs ds m b (ticked hs ds r x)) here,
-  )
+  ticked_on u r h up may so =
+      let before : (b : ℕ → Holds ds) → ((k : ℕ) → k < suc r.ticks → b k ≡ then so.answers r.ticks h k) → (k : ℕ) → k < r.ticks → b k ≡ so.answers k =
+      λ b e k lt. e k (omega arith) ∙ then_before so.answers r.ticks h k lt in
+      let here : (b : ℕ → Holds ds) → ((k : ℕ) → k < suc r.ticks → b k ≡ then so.answers r.ticks h k) → b r.ticks ≡ h =
+      λ b e. e r.ticks (omega arith) ∙ then_at so.answers r.ticks h in
+      let n : (m : ℕ) → suc r.ticks + m ≡ r.ticks + suc m = λ m. omega arith in
+      record {
+        answers = then so.answers r.ticks h;
+        on = λ b e m.
+            ap (λ n. goes_on hs ds n b (setting_out hs ds u)) (n m) ∙ so.on b (before b e) (suc m)
+            ∙ ap (λ v. cond v r (goes_on hs ds m b (ticked hs ds r (b r.ticks)))) up
+            ∙ ap (λ x. goes_on hs ds m b (ticked hs ds r x)) (here b e);
+        may = λ b e m after.
+            subst (λ n. GoesOnAnswered hs ds n b (setting_out hs ds u)) (sym (n m))
+            (so.may b (before b e) (suc m)
+            (subst (λ x. is_at_rest hs ds r.bus ≡ false → Answered hs ds r.bus x × GoesOnAnswered hs ds m b (ticked hs ds r x)) (sym (here b e))
+            (λ up. (may, after))));
+      }
 
   -- one tick more, by what the code has of it
   pub reached_more : (u : BusModel hs ds) (r : Running hs ds) (h : Holds ds) (v : BusModel hs ds) (o y : ℕ) →
       false ≡ is_at_rest hs ds r.bus → v ≡ (tick_at hs ds r.bus h).1 → o ≡ how_many (told_at hs ds r.bus) →
-      y ≡ r.busy + cond v.wire.busy 1 0 → Reached u r →
+      y ≡ r.busy + cond v.wire.busy 1 0 → Answered hs ds r.bus h → Reached u r →
       Reached u (record { bus = v; ticks = r.ticks + 1; outcomes = r.outcomes + o; busy = y })
-  reached_more u r h v o y up bus_is outcomes_are busy_is so =
+  reached_more u r h v o y up bus_is outcomes_are busy_is may so =
       let e : ◌≡◌ {A = Running hs ds} (record { bus = v; ticks = r.ticks + 1; outcomes = r.outcomes + o; busy = y }) (ticked hs ds r h) =
       rw (busy_is, outcomes_are, add-one, bus_is) in
-      subst (λ (x : Running hs ds). Reached u x) (sym e) (ticked_on u r h (sym up) so)
+      subst (λ (x : Running hs ds). Reached u x) (sym e) (ticked_on u r h (sym up) may so)
 
   rests : (r : Running hs ds) (b : ℕ → Holds ds) (m : ℕ) → is_at_rest hs ds r.bus ≡ true → goes_on hs ds m b r ≡ r
   rests r b m h = grind arith
@@ -83,15 +94,26 @@ module _ (hs : List HostBehaviour) (ds : List Behaviour) where
   stops : (r : Running hs ds) (b : ℕ → Holds ds) (n : ℕ) → (r.ticks ≡ n) ⊎ (true ≡ is_at_rest hs ds r.bus) → goes_on hs ds (n - r.ticks) b r ≡ r
   stops r b n h = grind arith
 
+  -- a run that is over asks nothing more
+  nothing_more : (r : Running hs ds) (b : ℕ → Holds ds) (m : ℕ) → (m ≡ 0) ⊎ (true ≡ is_at_rest hs ds r.bus) → GoesOnAnswered hs ds m b r
+  nothing_more r b zero over = tt
+  nothing_more r b (suc m) over = λ up. absurd (elim over [ inl e ↦ cc | inr e ↦ cc ])
+
   -- a run is over at rest, or once all its ticks are made
   pub run_is : (u : BusModel hs ds) (r : Running hs ds) (n l : ℕ) → n ≤ 1000000 → r.ticks ≤ n → l ≡ load r.busy r.ticks →
       (r.ticks ≡ n) ⊎ (true ≡ is_at_rest hs ds r.bus) → Reached u r →
-      (a : ℕ → Holds ds) × ((Ok (record { ticks = r.ticks; outcomes = r.outcomes; load = l }), r.bus) ≡ run_at hs ds u n a)
+      (a : ℕ → Holds ds) × RunAnswered hs ds u n a × ((Ok (record { ticks = r.ticks; outcomes = r.outcomes; load = l }), r.bus) ≡ run_at hs ds u n a)
   run_is u r n l few most load_is over so =
       let parts : n ≡ r.ticks + (n - r.ticks) = omega arith in
-      let all : goes_on hs ds n so.0 (setting_out hs ds u) ≡ r =
-      ap (λ n. goes_on hs ds n so.0 (setting_out hs ds u)) parts ∙ so.1 so.0 (λ k lt. refl) (n - r.ticks) ∙ stops r so.0 n over in
-      (so.0, rw (load_is, le-ltb 1000000 n few, all))
+      let all : goes_on hs ds n so.answers (setting_out hs ds u) ≡ r =
+      ap (λ n. goes_on hs ds n so.answers (setting_out hs ds u)) parts ∙ so.on so.answers (λ k lt. refl) (n - r.ticks) ∙ stops r so.answers n over in
+      let left : (n - r.ticks ≡ 0) ⊎ (true ≡ is_at_rest hs ds r.bus) = elim over [ inl e ↦ inl (omega arith) | inr e ↦ inr e ] in
+      let may : GoesOnAnswered hs ds n so.answers (setting_out hs ds u) =
+      subst (λ n. GoesOnAnswered hs ds n so.answers (setting_out hs ds u)) (sym parts)
+      (so.may so.answers (λ k lt. refl) (n - r.ticks) (nothing_more r so.answers (n - r.ticks) left)) in
+      (so.answers, λ e. may, rw (load_is, le-ltb 1000000 n few, all))
 
-  pub refused : (u : BusModel hs ds) (n : ℕ) → 1000000 < n → (a : ℕ → Holds ds) × ((Err 8, u) ≡ run_at hs ds u n a)
-  refused u n many = ((λ k. no_holds ds), rw (lt-ltb 1000000 n many))
+  pub refused : (u : BusModel hs ds) (n : ℕ) → 1000000 < n → (a : ℕ → Holds ds) × RunAnswered hs ds u n a × ((Err 8, u) ≡ run_at hs ds u n a)
+  refused u n many =
+      let e : ltb 1000000 n ≡ true = lt-ltb 1000000 n many in
+      ((λ k. no_holds ds), (λ few. absurd (let f : true ≡ false = sym e ∙ few in cc)), rw e)

@@ -4,10 +4,12 @@ ghost use Rattle.device.specs.Behaviours.{Behaviour};
 ghost use Rattle.host.specs.Behaviours.{HostBehaviour};
 ghost use Rattle.transfer.specs.Refusals.{answer};
 ghost use Rattle.law.specs.Banks.{any_true, Bank, each, listed};
-ghost use Rattle.law.specs.Buses.{all_pulls, arm_nth, over, Holds, ports_step};
-ghost use Rattle.master.specs.Serving.{Served, served_pulls, served_armed, served_new, served_step, served_mark, served};
-ghost use Rattle.port.specs.Ports.{port_new, PortModel, port_model, port_pulls};
+ghost use Rattle.law.specs.Buses.{all_pulls, arm_nth, over, Holds, AllMayAnswer, ports_step};
+ghost use Rattle.master.specs.Serving.{Served, SameHost, served_pulls, served_armed, served_new, served_step, served_mark, served};
+ghost use Rattle.port.specs.Asks.{PortAsked};
+ghost use Rattle.port.specs.Ports.{SameDevice, port_new, PortModel, port_model, port_pulls};
 ghost use Rattle.law.specs.Laws.{Clocked};
+ghost use Rattle.wire.specs.declared.wire.Signal.{Signal};
 ghost use Rattle.std.proofs.Common.{rules};
 
 use device::Device;
@@ -26,6 +28,9 @@ pub trait Masters {
 
     ghost stand: { Self → Bank Served hosts };
 
+    // One bank has the very hosts of another.
+    ghost same_hosts: { Self → Self → Type 0 };
+
     fn pulls(&self) -> Pulls
         ensures { result ≡ all_pulls (listed served_pulls hosts (stand self.now)) };
 
@@ -34,7 +39,8 @@ pub trait Masters {
 
     // As at the making: no master is armed or pulls.
     fn reset(&mut self)
-        ensures { stand self.new ≡ each served_new hosts (stand self.old) };
+        ensures same { same_hosts self.old self.new }
+        ensures after { stand self.new ≡ each served_new hosts (stand self.old) };
 
     fn arm(&mut self, master: usize) -> Result<(), Refusal>
         ensures { (answer (λ u. u) result, stand self.new) ≡ arm_nth hosts (stand self.old) master };
@@ -55,21 +61,30 @@ pub trait Ports {
 
     ghost stand: { Self → Bank PortModel devices };
 
+    // One bank has the very devices of another.
+    ghost same_devices: { Self → Self → Type 0 };
+
+    // What a tick asks of each device, where hold answers so: by these calls it went from one value to the other.
+    ghost asked: { Self → Signal → Holds devices → Self → Type 0 };
+
     fn pulls(&self) -> Pulls
         ensures { result ≡ all_pulls (listed port_pulls devices (stand self.now)) };
 
     // As at the making: every port is out, and no device is owed a finish.
     fn reset(&mut self)
-        ensures { stand self.new ≡ each port_new devices (stand self.old) };
+        ensures same { same_devices self.old self.new }
+        ensures after { stand self.new ≡ each port_new devices (stand self.old) };
 
     fn step(&mut self, signal: Signal)
-        ensures { (h : Holds devices) × (stand self.new ≡ ports_step devices (stand self.old) signal h) };
+        ensures { (h : Holds devices) × AllMayAnswer devices (stand self.old) signal h × (stand self.new ≡ ports_step devices (stand self.old) signal h) × asked self.old signal h self.new };
 }
 
 impl Masters for End {
     ghost hosts = { [] };
 
     ghost stand = { λ _. tt };
+
+    ghost same_hosts = { λ _ _. Unit {0} };
 
     ghost clocked = { Prim.search rules };
 
@@ -95,6 +110,10 @@ impl Ports for End {
 
     ghost stand = { λ _. tt };
 
+    ghost same_devices = { λ _ _. Unit {0} };
+
+    ghost asked = { λ _ _ _ _. Unit {0} };
+
     fn pulls(&self) -> Pulls {
         Pulls::none()
     }
@@ -108,6 +127,8 @@ impl<H: Host, B: Masters> Masters for (Master<H>, B) {
     ghost hosts = { H.Host.behaviour ∷ B.Masters.hosts };
 
     ghost stand = { λ p. (served H.Host p.0, B.Masters.stand p.1) };
+
+    ghost same_hosts = { λ p q. SameHost p.0 q.0 × B.Masters.same_hosts p.1 q.1 };
 
     ghost clocked = { Prim.search rules };
 
@@ -148,6 +169,10 @@ impl<D: Device, B: Ports> Ports for (Port<D>, B) {
     ghost devices = { D.Device.behaviour ∷ B.Ports.devices };
 
     ghost stand = { λ p. (port_model D.Device p.0, B.Ports.stand p.1) };
+
+    ghost same_devices = { λ p q. SameDevice p.0 q.0 × B.Ports.same_devices p.1 q.1 };
+
+    ghost asked = { λ p s h q. PortAsked D.Device p.0 s h.0.0 q.0 × B.Ports.asked p.1 s h.1 q.1 };
 
     fn pulls(&self) -> Pulls {
         self.0.pulls().or(self.1.pulls())

@@ -3,4 +3,5 @@ pub mod Sides
 pub mod Alone
 pub mod Law
 pub mod View
+pub mod Unheld
 pub mod Exemplified

@@ -1,5 +1,6 @@
 -- A bus, and what an arm and a tick make of it. Assumes nothing.
-use Rattle.std.specs.Prelude.{ℕ, ◌<◌, Bool, not, ◌&&◌, List, [], ◌∷◌, replicate, Err, Option, Result}
+use Rattle.std.specs.Prelude.{◌≡◌, ℕ, ◌<◌, Bool, not, ◌&&◌, List, [], ◌∷◌, replicate, Err, Option, Result}
+use Rattle.std.proofs.Common.{zero-lt-suc}
 use Rattle.device.specs.Behaviours.{Behaviour}
 use Rattle.host.specs.Behaviours.{HostBehaviour}
 use Rattle.transfer.specs.Outcomes.{OutcomeModel}
@@ -12,6 +13,7 @@ use Rattle.wire.specs.declared.wire.Signal.{Signal}
 use Rattle.wire.specs.declared.wire.Wire.{Wire}
 use Rattle.law.specs.Banks.{Bank, each, listed, nth, any_true}
 use Rattle.master.specs.Serving.{Served, served_step, served_mark, served_told, served_pulls, served_armed, served_new, served_arm}
+use Rattle.port.specs.Asks.{MayAnswer}
 use Rattle.port.specs.Ports.{PortModel, port_pulls, port_step, port_new}
 use Rattle.wire.specs.Wires.{no_pulls, both, levels_of, event, signal, wire_after, quiet_wire}
 
@@ -33,6 +35,21 @@ Holds ds = Bank (λ d. Held) ds
 abbrev pub ports_step : (ds : List Behaviour) → Bank PortModel ds → Signal → Holds ds → Bank PortModel ds
 ports_step [] p s hs = tt
 ports_step (d ∷ ds) p s hs = (port_step d p.0 s hs.0.0, ports_step ds p.1 s hs.1)
+
+-- where a port asks for hold, its answer is one that its device may give
+abbrev pub AllMayAnswer : (ds : List Behaviour) → Bank PortModel ds → Signal → Holds ds → Type 0
+AllMayAnswer [] p s hs = Unit {0}
+AllMayAnswer (d ∷ ds) p s hs = MayAnswer d p.0 s hs.0.0 × AllMayAnswer ds p.1 s hs.1
+
+-- no device may answer hold with anything but 0
+abbrev pub NeverHold : List Behaviour → Type 0
+NeverHold [] = Unit {0}
+NeverHold (d ∷ ds) = ((m : d.Meaning) (h : ℕ) → d.holds m h → h ≡ 0) × NeverHold ds
+
+-- every answer is 0
+abbrev pub no_holds : (ds : List Behaviour) → Holds ds
+no_holds [] = tt
+no_holds (d ∷ ds) = ((0, zero-lt-suc 255), no_holds ds)
 
 -- the marks of the masters there are, over those of none
 abbrev pub over : List Mark → List Mark → List Mark
@@ -76,6 +93,10 @@ module _ (hs : List HostBehaviour) (ds : List Behaviour) where
   -- one tick: what it shows, and the bus after it
   abbrev pub tick_at : BusModel → Holds ds → Tick × BusModel
   tick_at u a = (shown_at u (levels_at u), after_levels u (levels_at u) a)
+
+  -- the answers a are ones that the devices may give in the next tick
+  abbrev pub Answered : BusModel → Holds ds → Type 0
+  Answered u a = AllMayAnswer ds u.ports (signal u.wire (levels_at u)) a
 
   -- what each host is told in the next tick
   abbrev pub told_at : BusModel → List (Option OutcomeModel)

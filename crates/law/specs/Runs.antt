@@ -1,11 +1,11 @@
 -- A run: ticks until the bus is at rest or so many are made, and its load. Assumes nothing.
-use Rattle.std.specs.Prelude.{ℕ, zero, suc, ◌+◌, ◌*◌, ◌/◌, Bool, true, false, cond, List, is_some, Ok, Err, Option, Result, ◌==◌, nat_lt}
+use Rattle.std.specs.Prelude.{◌≡◌, ℕ, zero, suc, ◌+◌, ◌*◌, ◌/◌, Bool, true, false, cond, List, is_some, Ok, Err, Option, Result, ◌==◌, nat_lt}
 use Rattle.std.specs.List.{count_by}
 use Rattle.device.specs.Behaviours.{Behaviour}
 use Rattle.host.specs.Behaviours.{HostBehaviour}
 use Rattle.master.specs.declared.mark.Mark.{Mark}
 use Rattle.master.specs.declared.mark.Mark.TheVariants.{Quiet, Told, Lost}
-use Rattle.law.specs.Buses.{BusModel, Holds, tick_at, told_at, is_at_rest}
+use Rattle.law.specs.Buses.{BusModel, Holds, Answered, tick_at, told_at, is_at_rest}
 
 abbrev pub how_many : {A : Type 0} → List (Option A) → ℕ
 how_many os = count_by is_some os
@@ -53,9 +53,18 @@ module _ (hs : List HostBehaviour) (ds : List Behaviour) where
   goes_on zero a r = r
   goes_on (suc n) a r = cond (is_at_rest hs ds r.bus) r (goes_on n a (ticked r (a r.ticks)))
 
+  -- in each of these ticks the answers are ones that the devices may give
+  abbrev pub GoesOnAnswered : ℕ → (ℕ → Holds ds) → Running → Type 0
+  GoesOnAnswered zero a r = Unit {0}
+  GoesOnAnswered (suc n) a r = is_at_rest hs ds r.bus ≡ false → Answered hs ds r.bus (a r.ticks) × GoesOnAnswered n a (ticked r (a r.ticks))
+
   abbrev pub reported : Running → RunModel
   reported r = record { ticks = r.ticks; outcomes = r.outcomes; load = load r.busy r.ticks }
 
   -- more than a million ticks are refused with 8
   abbrev pub run_at : BusModel hs ds → ℕ → (ℕ → Holds ds) → Result RunModel ℕ × BusModel hs ds
   run_at u n a = cond (nat_lt 1000000 n) (Err 8, u) (let r = goes_on n a (setting_out u) in (Ok (reported r), r.bus))
+
+  -- in each tick of such a run the answers are ones that the devices may give
+  abbrev pub RunAnswered : BusModel hs ds → ℕ → (ℕ → Holds ds) → Type 0
+  RunAnswered u n a = nat_lt 1000000 n ≡ false → GoesOnAnswered n a (setting_out u)

@@ -1,5 +1,5 @@
 -- A master with the host that it serves. Assumes nothing.
-use Rattle.std.specs.Prelude.{ℕ, Bool, true, false, Some, None, Option, Result}
+use Rattle.std.specs.Prelude.{◌≡◌, ℕ, Bool, true, false, Some, None, Option, Result}
 use Rattle.std.specs.Option.{option_map}
 use Rattle.transfer.specs.Drafts.{transfer_model}
 use Rattle.transfer.specs.Outcomes.{OutcomeModel}
@@ -67,3 +67,7 @@ module _ (h : HostBehaviour) where
 -- a master as the rules see it, its host by what that means
 abbrev pub served : {H : Type 0} → (host : Ghosts H) → Master H → Served host.behaviour
 served host m = record { master = master_model m.state; meaning = host.means m.host }
+
+-- a master has the very host of another
+abbrev pub SameHost : {H : Type 0} → Master H → Master H → Type 0
+SameHost m n = n.host ≡ m.host

@@ -1,5 +1,5 @@
 -- One port after one event: select, put, take, finish and hold. Assumes nothing.
-use Rattle.std.specs.Prelude.{ℕ, suc, ◌<◌, ◌-◌, ◌/◌, ◌%◌, Bool, true, false, cond, not, ◌&&◌, Some, None, Option, ◌==◌, nat_lt}
+use Rattle.std.specs.Prelude.{◌≡◌, ℕ, suc, ◌<◌, ◌-◌, ◌/◌, ◌%◌, Bool, true, false, cond, not, ◌&&◌, Some, None, Option, ◌==◌, nat_lt}
 use Rattle.transfer.specs.declared.leg.Direction.{Direction}
 use Rattle.transfer.specs.declared.leg.Direction.TheVariants.{Write, Read}
 use Rattle.transfer.specs.Legs.{direction_of}
@@ -104,3 +104,7 @@ port_new b p = new_port b p.address p.meaning
 -- a port as the rules see it, its device by what that means
 abbrev pub port_model : {D : Type 0} → (device : Ghosts D) → Port D → PortModel device.behaviour
 port_model device p = record { address = p.address.number; meaning = device.means p.device; owed = p.owes_finish; mode = p.mode; hold = p.hold }
+
+-- a port has the very device of another
+abbrev pub SameDevice : {D : Type 0} → Port D → Port D → Type 0
+SameDevice p q = q.device ≡ p.device

@@ -1,10 +1,14 @@
 // The calls of a bus.
 ghost use Rattle.std.specs.Prelude.{◌≡◌, ◌≤◌, length};
 ghost use Rattle.transfer.specs.Refusals.{answer};
-ghost use Rattle.law.specs.Buses.{made, arm_at, Holds, tick_at, is_at_rest};
+ghost use Rattle.law.specs.Banks.{each};
+ghost use Rattle.law.specs.Buses.{made, arm_at, Holds, NeverHold, no_holds, Answered, levels_at, tick_at, is_at_rest};
 ghost use Rattle.law.specs.Facts.{StringLaws, ByteLaws};
 ghost use Rattle.law.specs.Laws.{EveryUse};
 ghost use Rattle.exchange.specs.Parts.{bus_model};
+ghost use Rattle.master.specs.Serving.{served_new};
+ghost use Rattle.port.specs.Ports.{port_new};
+ghost use Rattle.wire.specs.Wires.{signal};
 
 use super::Bus;
 use crate::bank::{Masters, Ports};
@@ -41,9 +45,11 @@ impl<M: Masters, P: Ports> Bus<M, P> {
         self.masters.arm(master)
     }
 
-    // One tick, one function of the bus before it and of what the devices answer to hold: that alone is open.
+    // One tick, one function of the bus before it and of what the devices answer to hold: that alone is open, as far as
+    // the devices leave it open. Where none of them may hold, nothing is.
     pub fn tick(&mut self) -> Tick
-        ensures { (h : Holds P.Ports.devices) × ((result, bus_model self.new) ≡ tick_at _ _ (bus_model self.old) h) }
+        ensures answered { (h : Holds P.Ports.devices) × Answered _ _ (bus_model self.old) h × ((result, bus_model self.new) ≡ tick_at _ _ (bus_model self.old) h) × P.Ports.asked self.old.ports (signal self.old.wire (levels_at _ _ (bus_model self.old))) h self.new.ports }
+        ensures unheld { NeverHold P.Ports.devices → (result, bus_model self.new) ≡ tick_at _ _ (bus_model self.old) (no_holds P.Ports.devices) }
     {
         let levels = self.masters.pulls().or(self.ports.pulls()).levels();
         let signal = self.wire.step(levels);
@@ -64,10 +70,16 @@ impl<M: Masters, P: Ports> Bus<M, P> {
         !self.wire.busy && !self.masters.any_armed()
     }
 
-    // Hands the masters with their hosts and the ports with their devices back, as they stand.
-    pub fn close(self) -> (M, P)
-        ensures { result ≡ (self.masters, self.ports) }
+    // Hands the masters with their hosts and the ports with their devices back at rest, as at the making. Hosts and
+    // devices stay as they stand.
+    pub fn close(mut self) -> (M, P)
+        ensures hosts { M.Masters.same_hosts self.masters result.0 }
+        ensures devices { P.Ports.same_devices self.ports result.1 }
+        ensures masters { M.Masters.stand result.0 ≡ each served_new M.Masters.hosts (M.Masters.stand self.masters) }
+        ensures ports { P.Ports.stand result.1 ≡ each port_new P.Ports.devices (P.Ports.stand self.ports) }
     {
+        self.masters.reset();
+        self.ports.reset();
         let Bus {
             wire: _,
             masters,

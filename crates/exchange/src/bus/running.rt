@@ -1,9 +1,9 @@
 // A run: ticks until the bus is at rest.
 ghost use Rattle.std.specs.Prelude.{◌≡◌, ℕ, ◌≤◌, length};
 ghost use Rattle.transfer.specs.Refusals.{answer};
-ghost use Rattle.law.specs.Buses.{Holds, tick_at, told_at};
+ghost use Rattle.law.specs.Buses.{Holds, NeverHold, no_holds, Answered, tick_at, told_at};
 ghost use Rattle.exchange.specs.Parts.{bus_model, run_model};
-ghost use Rattle.law.specs.Runs.{how_many, load, run_at};
+ghost use Rattle.law.specs.Runs.{how_many, load, RunAnswered, run_at};
 
 use super::{Bus, Run};
 use crate::bank::{Masters, Ports};
@@ -15,7 +15,8 @@ impl<M: Masters, P: Ports> Bus<M, P> {
     // Ticks until the bus is at rest, `n` times at most. It counts its ticks by hand, since it is a rule of the project
     // that a run is a loop that breaks with its counts.
     pub fn run(&mut self, n: u32) -> Result<Run, Refusal>
-        ensures { (a : ℕ → Holds P.Ports.devices) × ((answer run_model result, bus_model self.new) ≡ run_at _ _ (bus_model self.old) n a) }
+        ensures answered { (a : ℕ → Holds P.Ports.devices) × RunAnswered _ _ (bus_model self.old) n a × ((answer run_model result, bus_model self.new) ≡ run_at _ _ (bus_model self.old) n a) }
+        ensures unheld { NeverHold P.Ports.devices → (answer run_model result, bus_model self.new) ≡ run_at _ _ (bus_model self.old) n (λ _. no_holds P.Ports.devices) }
     {
         if n > MOST_TICKS {
             return Err(Refusal::TooManyTicks);
@@ -44,7 +45,7 @@ impl<M: Masters, P: Ports> Bus<M, P> {
     fn outcomes_of_tick(&mut self) -> u32
         ensures few { result ≤ 8 }
         ensures all { result ≡ how_many (told_at _ _ (bus_model self.old)) }
-        ensures after { (h : Holds P.Ports.devices) × (bus_model self.new ≡ (tick_at _ _ (bus_model self.old) h).1) }
+        ensures after { (h : Holds P.Ports.devices) × Answered _ _ (bus_model self.old) h × (bus_model self.new ≡ (tick_at _ _ (bus_model self.old) h).1) }
     {
         self.tick().outcomes()
     }

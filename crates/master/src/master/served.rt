@@ -1,7 +1,7 @@
 // A master with the host that it serves.
 ghost use Rattle.std.specs.Prelude.{◌≡◌};
 ghost use Rattle.transfer.specs.Refusals.{answer};
-ghost use Rattle.master.specs.Serving.{served_pulls, served_armed, served_new, served_arm, served_step, served_mark, served};
+ghost use Rattle.master.specs.Serving.{SameHost, served_pulls, served_armed, served_new, served_arm, served_step, served_mark, served};
 ghost use Rattle.master.specs.Masters.{new_master};
 ghost use Rattle.master.specs.Scripts.{transfers};
 
@@ -42,7 +42,8 @@ impl<H: Host> Master<H> {
     }
 
     pub fn reset(&mut self)
-        ensures { served H.Host self.new ≡ served_new _ (served H.Host self.old) }
+        ensures same { SameHost self.old self.new }
+        ensures after { served H.Host self.new ≡ served_new _ (served H.Host self.old) }
     {
         self.state = MasterState::new(self.state.clock);
     }

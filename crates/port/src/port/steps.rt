@@ -1,6 +1,7 @@
 // How a port steps, and what it asks its device.
-ghost use Rattle.std.specs.Prelude.{◌≡◌};
-ghost use Rattle.port.specs.Ports.{ForSomeHold, port_new, port_model, mode_pulls, port_pulls, counts, reads_on, settles, port_step, new_port};
+ghost use Rattle.std.specs.Prelude.{◌≡◌, true, false, not};
+ghost use Rattle.port.specs.Ports.{ForSomeHold, SameDevice, port_new, port_model, mode_pulls, port_pulls, counts, reads_on, settles, port_step, new_port};
+ghost use Rattle.port.specs.Asks.{asks_finish, asks_at_bit, asks_take, asks_hold_at_bit, AskedBy, PortAsked, MayAnswer};
 ghost use Rattle.port.specs.declared.port.Mode.TheVariants.{Addressing, Writing, Reading};
 
 use super::{Mode, Port};
@@ -48,7 +49,8 @@ impl<D: Device> Port<D> {
     }
 
     pub fn reset(&mut self)
-        ensures { port_model D.Device self.new ≡ port_new _ (port_model D.Device self.old) }
+        ensures same { SameDevice self.old self.new }
+        ensures after { port_model D.Device self.new ≡ port_new _ (port_model D.Device self.old) }
     {
         self.mode = Mode::Out;
         self.owes_finish = false;
@@ -64,8 +66,9 @@ impl<D: Device> Port<D> {
         }
     }
 
+    // What it keeps of hold is an answer of its device, asked for once, where the rules ask for it, after every other step.
     pub fn step(&mut self, signal: Signal)
-        ensures { ForSomeHold (λ h. port_model D.Device self.new ≡ port_step _ (port_model D.Device self.old) signal h) }
+        ensures { ForSomeHold (λ h. MayAnswer _ (port_model D.Device self.old) signal h × PortAsked D.Device self.old signal h self.new × (port_model D.Device self.new ≡ port_step _ (port_model D.Device self.old) signal h)) }
     {
         match (self.mode, signal.event, signal.bit) {
             (_, Event::Start, _) => self.settle(Mode::Addressing(Partial::of(0))),
@@ -85,7 +88,8 @@ impl<D: Device> Port<D> {
 
     // A device that said yes to select is finished.
     fn settle(&mut self, mode: Mode)
-        ensures { port_model D.Device self.new ≡ settles _ (port_model D.Device self.old) mode }
+        ensures asked { AskedBy D.Device self.old.device (asks_finish _ (port_model D.Device self.old)) false 0 self.new.device }
+        ensures after { port_model D.Device self.new ≡ settles _ (port_model D.Device self.old) mode }
     {
         if self.owes_finish {
             self.device.finish();
@@ -97,7 +101,8 @@ impl<D: Device> Port<D> {
     // At the eighth bit of the address byte a port that it calls selects its device.
     fn address_bit(&mut self, byte: Partial, bit: bool)
         requires { self.old.mode ≡ Addressing byte }
-        ensures { ForSomeHold (λ h. port_model D.Device self.new ≡ counts _ (port_model D.Device self.old) (Addressing byte) bit h) }
+        ensures asked { AskedBy D.Device self.old.device (asks_at_bit _ (port_model D.Device self.old) (Addressing byte) bit) false 0 self.new.device }
+        ensures after { port_model D.Device self.new ≡ counts _ (port_model D.Device self.old) (Addressing byte) bit 0 }
     {
         let value = shift_in(byte.value, bit);
         if byte.bits < 7 {
@@ -118,7 +123,8 @@ impl<D: Device> Port<D> {
     // At the eighth bit of a written byte it is put.
     fn write_bit(&mut self, byte: Partial, bit: bool)
         requires { self.old.mode ≡ Writing byte }
-        ensures { ForSomeHold (λ h. port_model D.Device self.new ≡ counts _ (port_model D.Device self.old) (Writing byte) bit h) }
+        ensures asked { AskedBy D.Device self.old.device (asks_at_bit _ (port_model D.Device self.old) (Writing byte) bit) false 0 self.new.device }
+        ensures after { port_model D.Device self.new ≡ counts _ (port_model D.Device self.old) (Writing byte) bit 0 }
     {
         if byte.bits < 7 {
             self.mode = Mode::Writing(byte.received(bit));
@@ -131,7 +137,7 @@ impl<D: Device> Port<D> {
 
     fn read_bit(&mut self, byte: Partial, bit: bool)
         requires { self.old.mode ≡ Reading byte }
-        ensures { ForSomeHold (λ h. port_model D.Device self.new ≡ counts _ (port_model D.Device self.old) (Reading byte) bit h) }
+        ensures { ForSomeHold (λ h. (asks_hold_at_bit (Reading byte) bit ≡ true → D.Device.behaviour.holds (D.Device.means self.new.device) h) × AskedBy D.Device self.old.device (asks_at_bit _ (port_model D.Device self.old) (Reading byte) bit) (asks_hold_at_bit (Reading byte) bit) h self.new.device × (port_model D.Device self.new ≡ counts _ (port_model D.Device self.old) (Reading byte) bit h)) }
     {
         if byte.bits < 8 {
             self.mode = Mode::Reading(byte.shown());
@@ -142,7 +148,7 @@ impl<D: Device> Port<D> {
 
     // At the ninth bit of a read an N puts the port out, and at an A it takes a byte and then reads hold.
     fn read_on(&mut self, nack: bool)
-        ensures { ForSomeHold (λ h. port_model D.Device self.new ≡ reads_on _ (port_model D.Device self.old) nack (D.Device.behaviour.take (D.Device.means self.old.device)) h) }
+        ensures { ForSomeHold (λ h. (nack ≡ false → D.Device.behaviour.holds (D.Device.means self.new.device) h) × AskedBy D.Device self.old.device (asks_take _ (port_model D.Device self.old) nack) (not nack) h self.new.device × (port_model D.Device self.new ≡ reads_on _ (port_model D.Device self.old) nack (D.Device.behaviour.take (D.Device.means self.old.device)) h)) }
     {
         if nack {
             self.mode = Mode::Out;

@@ -11,10 +11,10 @@ returns g c =
     let hs = g.M.Masters.hosts in
     let ds = g.P.Ports.devices in
     let u = bus_model c.args.self.now in
-    let tick_is = c.tick.ensures.1 in
+    let tick = c.tick.ensures.answered in
     record {
       few = c.outcomes.ensures.few;
-      all = c.outcomes.ensures.all ∙ ap (λ x. tolds x.0.marks) tick_is
+      all = c.outcomes.ensures.all ∙ ap (λ x. tolds x.0.marks) tick.2
           ∙ tolds_are_all hs (signal u.wire (levels_at hs ds u)) u.masters 8 c.args.self.now.few_masters;
-      after = (c.tick.ensures.0, ap (λ x. x.1) tick_is);
+      after = (tick.0, tick.1, ap (λ x. x.1) tick.2);
     }
