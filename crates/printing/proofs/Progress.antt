@@ -3,7 +3,7 @@ use Rattle.std.proofs.Common.{◌≡◌, ℕ, ◌+◌, ◌++◌, false, List, de
 use Rattle.device.specs.Behaviours.{Behaviour}
 use Rattle.host.specs.Behaviours.{HostBehaviour}
 use Rattle.law.specs.declared.tick.Tick.{Tick}
-use Rattle.law.specs.Buses.{BusModel, Holds, tick_at, is_at_rest}
+use Rattle.law.specs.Buses.{BusModel, Holds, Answered, tick_at, is_at_rest}
 use Rattle.listing.specs.declared.listing.Listing.{Listing}
 use Rattle.listing.specs.declared.marks.Marks.{Marks}
 use Rattle.listing.specs.Lines.{lines_of}
@@ -26,6 +26,6 @@ module _ (hs : List HostBehaviour) (ds : List Behaviour) (masters : ℕ) (r : Li
       let listing_is : l ≡ (listing_step r.listing (tick_at hs ds r.bus h).0).1 = ap (λ a. a.1) step_is in
       cc
 
-  pub one_more : (n : ℕ) (u : BusModel hs ds) (before text : List ℕ) → Ran hs ds masters n u before r → is_at_rest hs ds r.bus ≡ false →
+  pub one_more : (n : ℕ) (u : BusModel hs ds) (before text : List ℕ) → Ran hs ds masters n u before r → is_at_rest hs ds r.bus ≡ false → Answered hs ds r.bus h →
       text ≡ lines_of (decimal m.tick) m → Ran hs ds masters (n + 1) u (before ++ text) (record { bus = v; listing = l })
-  one_more n u before text ran awake lines = rw add-one (r, before, h, ran, awake, ap (λ a. before ++ a) (lines_are text lines), ticked_is)
+  one_more n u before text ran awake answered lines = rw add-one (r, before, h, ran, awake, answered, ap (λ a. before ++ a) (lines_are text lines), ticked_is)

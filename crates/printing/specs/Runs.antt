@@ -1,10 +1,10 @@
 -- A run of a bus whose masters are armed before each of its ticks, and what is printed of it. Assumes nothing.
-use Rattle.std.specs.Prelude.{◌≡◌, ℕ, zero, suc, ◌<◌, ◌≤◌, ◌⊎◌, true, false, List, [], ◌++◌, decimal}
+use Rattle.std.specs.Prelude.{◌≡◌, ℕ, zero, suc, ◌<◌, ◌≤◌, ◌⊎◌, true, false, cond, List, [], ◌++◌, decimal}
 use Rattle.std.specs.Fmt.{WritesInCalls}
 use Rattle.std.specs.declared.io.Error.{Error}
 use Rattle.device.specs.Behaviours.{Behaviour}
 use Rattle.host.specs.Behaviours.{HostBehaviour}
-use Rattle.law.specs.Buses.{BusModel, Holds, tick_at, is_at_rest}
+use Rattle.law.specs.Buses.{BusModel, Holds, Answered, no_holds, tick_at, is_at_rest}
 use Rattle.listing.specs.declared.listing.Listing.{Listing}
 use Rattle.listing.specs.Lines.{lines_of}
 use Rattle.listing.specs.Listings.{new_listing, listing_step}
@@ -29,11 +29,19 @@ module _ (hs : List HostBehaviour) (ds : List Behaviour) where
   ticked masters s h = let t = tick_at hs ds s.bus h in
       record { bus = all_armed hs ds masters t.1; listing = (listing_step s.listing t.0).1 }
 
-  -- n ticks lead from the bus u to s, and these are their lines, for some answers to hold; no tick is made at rest
+  -- n ticks lead from the bus u to s, and these are their lines, for some answers to hold that the devices may give; no tick
+  -- is made at rest
   abbrev pub Ran : ℕ → ℕ → BusModel hs ds → List ℕ → Listened → Type 0
   Ran masters zero u text s = (text ≡ []) × (s ≡ setting_out masters u)
   Ran masters (suc n) u text s =
-      (r : Listened) × (before : List ℕ) × (h : Holds ds) × Ran masters n u before r × (is_at_rest hs ds r.bus ≡ false) × (text ≡ before ++ next_lines r h) × (s ≡ ticked masters r h)
+      (r : Listened) × (before : List ℕ) × (h : Holds ds) × Ran masters n u before r
+      × (is_at_rest hs ds r.bus ≡ false) × Answered hs ds r.bus h × (text ≡ before ++ next_lines r h) × (s ≡ ticked masters r h)
+
+  -- the lines of n ticks at most from s on, where no device holds
+  unfoldable pub unheld_lines : ℕ → ℕ → Listened → List ℕ
+  unheld_lines masters zero s = []
+  unheld_lines masters (suc n) s =
+      cond (is_at_rest hs ds s.bus) [] (next_lines s (no_holds ds) ++ unheld_lines masters n (ticked masters s (no_holds ds)))
 
   module _ {W : Type 0} (takes : W → List ℕ → W → Type 0) where
     -- a run from u to v of which all lines are written: it ends at rest, or after the most ticks
@@ -57,6 +65,7 @@ module _ (hs : List HostBehaviour) (ds : List Behaviour) where
       pub bounded : ticks < most
       pub ran : Ran masters ticks u text end
       pub awake : is_at_rest hs ds end.bus ≡ false
+      pub answered : Answered hs ds end.bus holds
       pub written : WritesInCalls takes out text between
       pub failed : fails between (next_lines end holds) e out_after
       pub bus : v ≡ (ticked masters end holds).bus

@@ -1,7 +1,10 @@
 // Ticks and their lines.
-ghost use Rattle.std.specs.Prelude.{OnOk, IfErr};
+ghost use Rattle.std.specs.Prelude.{ℕ, ◌<◌, ◌^◌, decimal, OnOk, IfErr};
 ghost use Rattle.exchange.specs.Parts.{bus_model};
-ghost use Rattle.printing.specs.Runs.{PrintsAll, PrintsPart};
+ghost use Rattle.law.specs.Buses.{NeverHold};
+ghost use Rattle.printing.specs.Outputs.{Puts};
+ghost use Rattle.printing.specs.Runs.{PrintsAll, PrintsPart, setting_out, unheld_lines};
+ghost use Rattle.text.specs.Decimals.{Decimal};
 
 use crate::output::Output;
 use exchange::{Bus, Masters, Ports};
@@ -11,15 +14,17 @@ use std::io;
 
 // Ticks until the bus is at rest, `most_ticks` times at most, and prints what each tick shows. The first `masters`
 // masters are armed at the beginning and after each tick. After a fault the bus stands, its masters armed, after the
-// tick that was not printed.
+// tick that was not printed. The number in a line is the only decimal of its tick.
 pub fn print_run<M: Masters, P: Ports, O: Output>(
     out: &mut O,
     bus: &mut Bus<M, P>,
     masters: usize,
     most_ticks: u32,
 ) -> io::Result<()>
-    ensures all { OnOk result (PrintsAll M.Masters.hosts P.Ports.devices O.Output.takes masters most_ticks (bus_model bus.old) (bus_model bus.new) out.old out.new) }
-    ensures part { IfErr result (PrintsPart M.Masters.hosts P.Ports.devices O.Output.takes O.Output.fails masters most_ticks (bus_model bus.old) (bus_model bus.new) out.old out.new) }
+    ensures all { OnOk result (PrintsAll _ _ O.Output.takes masters most_ticks (bus_model bus.old) (bus_model bus.new) out.old out.new) }
+    ensures part { IfErr result (PrintsPart _ _ O.Output.takes O.Output.fails masters most_ticks (bus_model bus.old) (bus_model bus.new) out.old out.new) }
+    ensures unheld { NeverHold P.Ports.devices → Puts O.Output.takes O.Output.fails (unheld_lines _ _ masters most_ticks (setting_out _ _ masters (bus_model bus.old))) out.old result out.new }
+    ensures numbers { (n : ℕ) → n < 2 ^ 64 → Decimal n (decimal n) }
 {
     let mut listing = Listing::new();
     arm_all(bus, masters);

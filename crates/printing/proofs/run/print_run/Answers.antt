@@ -2,6 +2,8 @@ use Rattle.std.proofs.Common.{◌≡◌, ◌∙◌, ℕ, List, refl, inl, inr, s
 use Rattle.std.proofs.Output.{writes_in_calls_single, writes_in_calls_append}
 use Rattle.exchange.specs.Parts.{bus_model}
 use Rattle.printing.proofs.Progress.{lines_are, ticked_is, one_more}
+use Rattle.printing.proofs.Unheld.{puts_all, puts_part}
+use Rattle.text.proofs.Only.{is_decimal}
 use Rattle.printing.proofs.run.print_run.Goals as goal
 
 pub returns-then-at_rest-clause-all : goal.returns-then-at_rest-clause-all
@@ -36,8 +38,8 @@ loop-made-preserved g c =
     let shown = c.as_bytes.ensures.value ∙ c.as_str.ensures.value ∙ c.lines-lines.ensures.lines in
     let (before, ran, written) = c.loop-made.invariant in (
       _,
-      one_more hs ds c.args.masters _ c.tick-tick.ensures.0 _ _ _ _ _ c.tick-tick.ensures.1 c.step.ensures c.arm_all-in-loop-made.ensures
-          c.loop-made._made (bus_model c.args.bus.now) before text ran (search rules) shown,
+      one_more hs ds c.args.masters _ c.tick-tick.ensures.answered.0 _ _ _ _ _ c.tick-tick.ensures.answered.2 c.step.ensures c.arm_all-in-loop-made.ensures
+          c.loop-made._made (bus_model c.args.bus.now) before text ran (search rules) c.tick-tick.ensures.answered.1 shown,
       writes_in_calls_append _ _ _ _ _ _ written (writes_in_calls_single _ _ _ _ c.in_default.ensures.taken),
     )
 
@@ -51,14 +53,36 @@ returns-in-Err-clause-part g c =
       ticks = c.loop-made._made;
       text = before;
       end = record { bus = bus_model c.loop-made.bus; listing = c.loop-made.listing };
-      holds = c.tick-tick.ensures.0;
+      holds = c.tick-tick.ensures.answered.0;
       between = c.loop-made.out;
       bounded = omega arith;
       ran = ran;
       awake = search rules;
+      answered = c.tick-tick.ensures.answered.1;
       written = written;
       failed = subst (λ (x : List ℕ). g.O.Output.fails c.loop-made.out x c.in-Err.error c.put.new.self)
-          (lines_are hs ds c.args.masters _ c.tick-tick.ensures.0 _ _ _ _ _ c.tick-tick.ensures.1 c.step.ensures c.arm_all-in-loop-made.ensures text shown)
+          (lines_are hs ds c.args.masters _ c.tick-tick.ensures.answered.0 _ _ _ _ _ c.tick-tick.ensures.answered.2 c.step.ensures c.arm_all-in-loop-made.ensures text shown)
           c.in-Err.ensures.failed;
-      bus = ap (λ a. a.bus) (ticked_is hs ds c.args.masters _ c.tick-tick.ensures.0 _ _ _ _ _ c.tick-tick.ensures.1 c.step.ensures c.arm_all-in-loop-made.ensures);
+      bus = ap (λ a. a.bus) (ticked_is hs ds c.args.masters _ c.tick-tick.ensures.answered.0 _ _ _ _ _ c.tick-tick.ensures.answered.2 c.step.ensures c.arm_all-in-loop-made.ensures);
     }
+
+pub returns-then-at_rest-clause-unheld : goal.returns-then-at_rest-clause-unheld
+returns-then-at_rest-clause-unheld g c = λ never.
+    puts_all g.M.Masters.hosts g.P.Ports.devices never c.args.masters g.O.Output.takes g.O.Output.fails _ _ _ _ _ (returns-then-at_rest-clause-all g c)
+
+pub returns-clause-unheld : goal.returns-clause-unheld
+returns-clause-unheld g c = λ never.
+    puts_all g.M.Masters.hosts g.P.Ports.devices never c.args.masters g.O.Output.takes g.O.Output.fails _ _ _ _ _ (returns-clause-all g c)
+
+pub returns-in-Err-clause-unheld : goal.returns-in-Err-clause-unheld
+returns-in-Err-clause-unheld g c = λ never.
+    puts_part g.M.Masters.hosts g.P.Ports.devices never c.args.masters g.O.Output.takes g.O.Output.fails _ _ _ _ _ _ (returns-in-Err-clause-part g c)
+
+pub returns-then-at_rest-clause-numbers : goal.returns-then-at_rest-clause-numbers
+returns-then-at_rest-clause-numbers g c = is_decimal
+
+pub returns-clause-numbers : goal.returns-clause-numbers
+returns-clause-numbers g c = is_decimal
+
+pub returns-in-Err-clause-numbers : goal.returns-in-Err-clause-numbers
+returns-in-Err-clause-numbers g c = is_decimal
