@@ -52,9 +52,7 @@ module _ (hs : List HostBehaviour) (ds : List Behaviour) (never : NeverHold ds) 
 
   module _ {W : Type 0} (takes : W → List ℕ → W → Type 0) (fails : W → List ℕ → Error → W → Type 0) (most : ℕ) (u v : BusModel hs ds) (out after : W) where
     pub puts_all : PrintsAll hs ds takes masters most u v out after → WritesInCalls takes out (unheld_lines hs ds masters most (setting_out hs ds masters u)) after
-    puts_all p =
-        let over : (p.ticks ≡ most) ⊎ (is_at_rest hs ds p.end.bus ≡ true) = subst (λ w. (p.ticks ≡ most) ⊎ (is_at_rest hs ds w ≡ true)) p.bus p.over in
-        subst (λ text. WritesInCalls takes out text after) (run_unheld p.ticks most u p.text p.end p.bounded p.ran over) p.written
+    puts_all p = subst (λ text. WritesInCalls takes out text after) (run_unheld p.run.ticks most u p.text p.end p.run.bounded p.run.ran p.run.over) p.written
 
     pub puts_part : (e : Error) → PrintsPart hs ds takes fails masters most u v out after e → PutsPart takes fails (unheld_lines hs ds masters most (setting_out hs ds masters u)) out after e
     puts_part e p =

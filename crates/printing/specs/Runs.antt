@@ -43,20 +43,24 @@ module _ (hs : List HostBehaviour) (ds : List Behaviour) where
   unheld_lines masters (suc n) s =
       cond (is_at_rest hs ds s.bus) [] (next_lines s (no_holds ds) ++ unheld_lines masters n (ticked masters s (no_holds ds)))
 
+  -- a run with this text: it ends at rest, or after the most ticks
+  pub record RunsTo (masters most : ℕ) (u : BusModel hs ds) (text : List ℕ) (end : Listened) : Type 0 where
+    pub ticks : ℕ
+    pub bounded : ticks ≤ most
+    pub ran : Ran masters ticks u text end
+    pub over : (ticks ≡ most) ⊎ (is_at_rest hs ds end.bus ≡ true)
+
   module _ {W : Type 0} (takes : W → List ℕ → W → Type 0) where
-    -- a run from u to v of which all lines are written: it ends at rest, or after the most ticks
-    pub record PrintsAll (masters most : ℕ) (u v : BusModel hs ds) (out out_after : W) : Type 0 where
-      pub ticks : ℕ
+    -- a run from u to v of which all lines are written
+    pub record PrintsAll (masters most : ℕ) (u v : BusModel hs ds) (out after : W) : Type 0 where
       pub text : List ℕ
       pub end : Listened
-      pub bounded : ticks ≤ most
-      pub ran : Ran masters ticks u text end
-      pub over : (ticks ≡ most) ⊎ (is_at_rest hs ds v ≡ true)
-      pub written : WritesInCalls takes out text out_after
+      pub run : RunsTo masters most u text end
+      pub written : WritesInCalls takes out text after
       pub bus : v ≡ end.bus
 
     -- the lines of so many ticks are written, the next tick is made, and the writing of its lines fails with e
-    pub record PrintsPart (fails : W → List ℕ → Error → W → Type 0) (masters most : ℕ) (u v : BusModel hs ds) (out out_after : W) (e : Error) : Type 0 where
+    pub record PrintsPart (fails : W → List ℕ → Error → W → Type 0) (masters most : ℕ) (u v : BusModel hs ds) (out after : W) (e : Error) : Type 0 where
       pub ticks : ℕ
       pub text : List ℕ
       pub end : Listened
@@ -67,5 +71,5 @@ module _ (hs : List HostBehaviour) (ds : List Behaviour) where
       pub awake : is_at_rest hs ds end.bus ≡ false
       pub answered : Answered hs ds end.bus holds
       pub written : WritesInCalls takes out text between
-      pub failed : fails between (next_lines end holds) e out_after
+      pub failed : fails between (next_lines end holds) e after
       pub bus : v ≡ (ticked masters end holds).bus

@@ -11,7 +11,8 @@ use transfer::{Outcome, OutcomeKind};
 // Each byte as a space and two capital hexadecimal digits.
 pub fn push_bytes<const N: usize>(text: &mut ArrayString<N>, bytes: &[u8])
     requires { length text.old.bytes + 3 * length bytes.now ≤ N }
-    ensures { text.new.bytes ≡ text.old.bytes ++ bytes_text bytes.now }
+    ensures text { text.new.bytes ≡ text.old.bytes ++ bytes_text bytes.now }
+    ensures len { length text.new.bytes ≡ length text.old.bytes + 3 * length bytes.now }
 {
     for &byte in bytes {
         text.push_str(" ");
@@ -22,7 +23,8 @@ pub fn push_bytes<const N: usize>(text: &mut ArrayString<N>, bytes: &[u8])
 // An outcome in the words of a run's last lines: legs and bytes count from 0. An outcome has 32 bytes at most.
 pub fn push_outcome<const N: usize>(text: &mut ArrayString<N>, outcome: &Outcome)
     requires { length text.old.bytes + 100 ≤ N }
-    ensures { text.new.bytes ≡ text.old.bytes ++ outcome_text (outcome_model outcome.now) }
+    ensures text { text.new.bytes ≡ text.old.bytes ++ outcome_text (outcome_model outcome.now) }
+    ensures short { length text.new.bytes ≤ length text.old.bytes + 100 }
 {
     match outcome.kind {
         OutcomeKind::Done => {

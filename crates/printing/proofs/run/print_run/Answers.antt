@@ -8,24 +8,18 @@ use Rattle.printing.proofs.run.print_run.Goals as goal
 
 pub returns-then-at_rest-clause-all : goal.returns-then-at_rest-clause-all
 returns-then-at_rest-clause-all g c = record {
-  ticks = c.loop-made._made;
   text = c.loop-made.invariant.0;
   end = record { bus = bus_model c.loop-made.bus; listing = c.loop-made.listing };
-  bounded = omega arith;
-  ran = c.loop-made.invariant.1;
-  over = inr (search rules);
+  run = record { ticks = c.loop-made._made; bounded = omega arith; ran = c.loop-made.invariant.1; over = inr (search rules) };
   written = c.loop-made.invariant.2;
   bus = refl;
 }
 
 pub returns-clause-all : goal.returns-clause-all
 returns-clause-all g c = record {
-  ticks = c.loop-made._made;
   text = c.loop-made.invariant.0;
   end = record { bus = bus_model c.loop-made.bus; listing = c.loop-made.listing };
-  bounded = omega arith;
-  ran = c.loop-made.invariant.1;
-  over = inl (omega arith);
+  run = record { ticks = c.loop-made._made; bounded = omega arith; ran = c.loop-made.invariant.1; over = inl (omega arith) };
   written = c.loop-made.invariant.2;
   bus = refl;
 }
