@@ -7,6 +7,7 @@ use Rattle.device.specs.Behaviours.{Behaviour}
 use Rattle.device.specs.BusyLayers.{Busied, busy_over}
 use Rattle.device.specs.EventQueues.{event_queue}
 use Rattle.device.specs.RegisterFiles.{register_file, new_registers}
+use Rattle.device.specs.SlowLayers.{Slowed, slow_over}
 use Rattle.host.specs.Behaviours.{HostBehaviour}
 use Rattle.host.specs.ListHosts.{Listed, list_host}
 use Rattle.host.specs.PollHosts.{Polled, poll_host}
@@ -61,8 +62,9 @@ PollsAt low high a x = (m : Polled) × Polls a m × (x ≡ serving poll_host low
 abbrev pub idle_registers : Busied register_file
 idle_registers = record { number = 1; left = 0; inside = false; wrote = false; below = new_registers }
 
-abbrev pub slow_queue : List ℕ
-slow_queue = 0x91 ∷ 0x85 ∷ []
+-- it holds the clock for 5 ticks
+abbrev pub slow_queue : Slowed event_queue
+slow_queue = record { number = 5; below = 0x91 ∷ 0x85 ∷ [] }
 
 abbrev pub quick_queue : List ℕ
 quick_queue = 0x31 ∷ []
@@ -71,13 +73,13 @@ abbrev pub head_hosts : List HostBehaviour
 head_hosts = list_host ∷ poll_host ∷ list_host ∷ []
 
 abbrev pub head_devices : List Behaviour
-head_devices = busy_over register_file ∷ event_queue ∷ event_queue ∷ []
+head_devices = busy_over register_file ∷ slow_over event_queue ∷ event_queue ∷ []
 
 -- the two queues have one address
 abbrev pub head : Listed → Polled → Listed → BusModel head_hosts head_devices
 head a b c =
     made head_hosts head_devices (serving list_host 2 2 a, (serving poll_host 1 3 b, (serving list_host 3 1 c, tt)))
-    (new_port (busy_over register_file) 80 idle_registers, (new_port event_queue 81 slow_queue, (new_port event_queue 81 quick_queue, tt)))
+    (new_port (busy_over register_file) 80 idle_registers, (new_port (slow_over event_queue) 81 slow_queue, (new_port event_queue 81 quick_queue, tt)))
 
 -- each master at its clock, each host with what it wants, each device as it is made
 abbrev pub IsHead : BusModel head_hosts head_devices → Type 0

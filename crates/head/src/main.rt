@@ -1,11 +1,11 @@
 // Three masters of one sensor head: the listing of their run, what each was told last, and the registers.
 #![tactic(auto)]
 
-use fault::Fault;
+use std::io;
 
 mod run;
 mod setup;
 
-fn main(rt: HostRuntime) -> Result<(), Fault> {
-    run::run(&rt)
+fn main(rt: HostRuntime) -> io::Result<()> {
+    run::run(&mut rt.stdout())
 }

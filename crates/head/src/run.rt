@@ -1,38 +1,69 @@
 // Runs the bus until nobody wants anything any more, and prints what each tick shows and what came of it.
+ghost use Rattle.std.specs.Prelude.{◌≡◌, ℕ, ◌+◌, ◌≤◌, ◌++◌, Option, length};
+ghost use Rattle.std.specs.Option.{option_map};
+ghost use Rattle.exchange.specs.Parts.{bus_model};
+ghost use Rattle.transfer.specs.Outcomes.{outcome_model};
+ghost use Rattle.head.specs.Runs.{told_line, registers_line, end_text, PrintsHead};
+
 use crate::setup::{HeadBus, head_bus};
-use exchange::{End, Masters, Ports};
-use fault::Fault;
-use parts::TURN;
-use printing::print_run;
-use text::{HexBytes, OutcomeText};
+use exchange::End;
+use parts::ticks_of_turns;
+use printing::{Output, print_run};
+use std::io;
+use text::{ArrayString, push_bytes, push_decimal, push_outcome};
+use transfer::Outcome;
 
 const MASTERS: usize = 3;
 
-// 16 turns are far more than the lists and the polls of this head take.
-const MOST_TICKS: u32 = 16 * TURN;
+// Room for three lines of a master, each of 130 bytes at most, and for the line of 16 registers.
+const END: usize = 449;
 
-// Takes the head apart, and prints the last outcomes and the registers.
-fn print_end(rt: &HostRuntime, bus: HeadBus) -> Result<(), Fault> {
-    let ((logger, (alarm_unit, (service_port, End))), (registers, _queues)) = bus.close();
-    let told = [
-        logger.into_host().last(),
-        alarm_unit.into_host().last(),
-        service_port.into_host().last(),
-    ];
-    for (number, last) in told.iter().enumerate() {
-        if let Some(outcome) = last {
-            println!(rt; "master {number}: {}", OutcomeText(outcome))?;
-        }
+// What a master was told last, if it was told anything.
+fn push_told<const N: usize>(text: &mut ArrayString<N>, number: u64, last: Option<Outcome>)
+    requires { length text.old.bytes + 130 ≤ N }
+    ensures line { text.new.bytes ≡ text.old.bytes ++ told_line number (option_map outcome_model last) }
+    ensures short { length text.new.bytes ≤ length text.old.bytes + 130 }
+{
+    if let Some(outcome) = last {
+        text.push_str("master ");
+        push_decimal(text, number);
+        text.push_str(": ");
+        push_outcome(text, &outcome);
+        text.push_str("\n");
     }
-    let registers = registers.into_device().into_device();
-    println!(rt; "registers:{}", HexBytes(&registers.bytes()))?;
-    Ok(())
 }
 
-pub fn run(rt: &HostRuntime) -> Result<(), Fault> {
-    let mut bus = head_bus()?;
-    let ended = print_run(rt, &mut bus, MASTERS, MOST_TICKS);
-    let printed = print_end(rt, bus);
-    ended?;
-    printed
+fn push_registers<const N: usize>(text: &mut ArrayString<N>, registers: &[u8; 16])
+    requires { length text.old.bytes + 59 ≤ N }
+    ensures { text.new.bytes ≡ text.old.bytes ++ registers_line registers.now }
+{
+    text.push_str("registers:");
+    push_bytes(text, registers);
+    text.push_str("\n");
+}
+
+// Takes the head apart: the last outcomes, and then the registers.
+fn end_lines(bus: HeadBus) -> ArrayString<END>
+    ensures { result.bytes ≡ end_text (bus_model bus) }
+{
+    let ((logger, (alarm_unit, (service_port, End))), (registers, _queues)) = bus.close();
+    let mut text = ArrayString::new();
+    push_told(&mut text, 0, logger.into_host().last());
+    push_told(&mut text, 1, alarm_unit.into_host().last());
+    push_told(&mut text, 2, service_port.into_host().last());
+    push_registers(&mut text, &registers.into_device().into_device().bytes());
+    text
+}
+
+// 16 turns are far more than the lists and the polls of this head take.
+pub fn run<O: Output>(out: &mut O) -> io::Result<()>
+    ensures { PrintsHead O.Output.takes O.Output.fails out.old result out.new }
+{
+    let mut bus = head_bus();
+    let ended = print_run(out, &mut bus, MASTERS, ticks_of_turns(16));
+    let end = end_lines(bus);
+    if let Err(error) = ended {
+        return Err(error);
+    }
+    out.put(end.as_str().as_bytes())
 }

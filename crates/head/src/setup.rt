@@ -1,6 +1,7 @@
 // The bus of the sensor head: a logger, an alarm unit and a service port, and the three devices that they share.
-ghost use Rattle.std.specs.Prelude.{◌≡◌, IfOk};
-ghost use Rattle.device.specs.EventQueues.{queued};
+ghost use Rattle.std.specs.Prelude.{◌≡◌};
+ghost use Rattle.device.specs.EventQueues.{event_queue, queued};
+ghost use Rattle.device.specs.SlowLayers.{slowed};
 ghost use Rattle.exchange.specs.Parts.{bus_model};
 ghost use Rattle.master.specs.Serving.{served};
 ghost use Rattle.head.specs.Setups.{log_write, log_read, event_read, service_write, probe_write, slow_queue, ListsAt, PollsAt, IsHead};
@@ -11,7 +12,7 @@ use host::{Host, ListHost, PollHost};
 use master::Master;
 use parts::{list_of, queue_of};
 use port::Port;
-use transfer::{Address, ClockPair, Refusal, Transfer};
+use transfer::{Address, ClockPair, Transfer};
 
 pub type HeadMasters = (
     Master<ListHost>,
@@ -35,52 +36,52 @@ const NOBODY: u32 = 0x22;
 
 // Apart from the service port: what each sends is the point of the program, and one function would take all of it as
 // arguments.
-fn logger() -> Result<Master<ListHost>, Refusal>
-    ensures { IfOk result (λ m. ListsAt 2 2 log_write log_read (served ⟦<ListHost as Host>⟧ m)) }
+fn logger() -> Master<ListHost>
+    ensures { ListsAt 2 2 log_write log_read (served ⟦<ListHost as Host>⟧ result) }
 {
-    let clock = ClockPair::new(2, 2)?;
-    let registers = Address::new(REGISTERS)?;
-    let write = Transfer::write(registers, &[0x03, 0x7F, 0x80])?;
-    let read = Transfer::write_then_read(registers, &[0x03], 2)?;
-    Ok(Master::new(clock, list_of(&[write, read])?))
+    let clock = ClockPair::new(2, 2).unwrap();
+    let registers = Address::new(REGISTERS).unwrap();
+    let write = Transfer::write(registers, &[0x03, 0x7F, 0x80]).unwrap();
+    let read = Transfer::write_then_read(registers, &[0x03], 2).unwrap();
+    Master::new(clock, list_of(&[write, read]).unwrap())
 }
 
 // It polls until an event has its highest bit set.
-fn alarm_unit() -> Result<Master<PollHost>, Refusal>
-    ensures { IfOk result (λ m. PollsAt 1 3 event_read (served ⟦<PollHost as Host>⟧ m)) }
+fn alarm_unit() -> Master<PollHost>
+    ensures { PollsAt 1 3 event_read (served ⟦<PollHost as Host>⟧ result) }
 {
-    let clock = ClockPair::new(1, 3)?;
-    let read = Transfer::read(Address::new(EVENTS)?, 1)?;
-    Ok(Master::new(clock, PollHost::new(read, 0x80)))
+    let clock = ClockPair::new(1, 3).unwrap();
+    let read = Transfer::read(Address::new(EVENTS).unwrap(), 1).unwrap();
+    Master::new(clock, PollHost::new(read, 0x80))
 }
 
-fn service_port() -> Result<Master<ListHost>, Refusal>
-    ensures { IfOk result (λ m. ListsAt 3 1 service_write probe_write (served ⟦<ListHost as Host>⟧ m)) }
+fn service_port() -> Master<ListHost>
+    ensures { ListsAt 3 1 service_write probe_write (served ⟦<ListHost as Host>⟧ result) }
 {
-    let clock = ClockPair::new(3, 1)?;
-    let write = Transfer::write(Address::new(REGISTERS)?, &[0x03, 0x7F])?;
-    let probe = Transfer::write(Address::new(NOBODY)?, &[])?;
-    Ok(Master::new(clock, list_of(&[write, probe])?))
+    let clock = ClockPair::new(3, 1).unwrap();
+    let write = Transfer::write(Address::new(REGISTERS).unwrap(), &[0x03, 0x7F]).unwrap();
+    let probe = Transfer::write(Address::new(NOBODY).unwrap(), &[]).unwrap();
+    Master::new(clock, list_of(&[write, probe]).unwrap())
 }
 
 // It holds the clock for 5 ticks.
-fn slow_events() -> Result<Slow<EventQueue>, Refusal>
-    ensures { IfOk result (λ s. (s.number ≡ 5) × (queued s.device ≡ slow_queue)) }
+fn slow_events() -> Slow<EventQueue>
+    ensures { slowed event_queue queued result ≡ slow_queue }
 {
-    Ok(Slow::new(5, queue_of(&[0x91, 0x85])?))
+    Slow::new(5, queue_of(&[0x91, 0x85]).unwrap())
 }
 
-pub fn head_bus() -> Result<HeadBus, Refusal>
-    ensures { IfOk result (λ u. IsHead (bus_model u)) }
+pub fn head_bus() -> HeadBus
+    ensures { IsHead (bus_model result) }
 {
-    let masters = (logger()?, (alarm_unit()?, (service_port()?, End)));
-    let registers = Address::new(REGISTERS)?;
-    let events = Address::new(EVENTS)?;
-    let slow = slow_events()?;
-    let quick = queue_of(&[0x31])?;
+    let masters = (logger(), (alarm_unit(), (service_port(), End)));
+    let registers = Address::new(REGISTERS).unwrap();
+    let events = Address::new(EVENTS).unwrap();
+    let slow = slow_events();
+    let quick = queue_of(&[0x31]).unwrap();
     let ports = (
         Port::new(registers, Busy::new(1, RegisterFile::new())),
         (Port::new(events, slow), (Port::new(events, quick), End)),
     );
-    Ok(Bus::new(masters, ports))
+    Bus::new(masters, ports)
 }

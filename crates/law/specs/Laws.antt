@@ -77,6 +77,10 @@ pub record FirstDifference (t u : List Letter) (c : ℕ) : Type 0 where
   pub same : (k : ℕ) → k < c → slice_index_or t k low ≡ slice_index_or u k low
   pub less : rank (slice_index_or t c low) < rank (slice_index_or u c low)
 
+-- within so many ticks an outcome is told, where a master is armed; so long takes a turn at the slowest clocks and holds
+abbrev pub most_ticks_of_turn : ℕ
+most_ticks_of_turn = 160000
+
 -- every clock count is 1 to 255
 abbrev pub Clocked : (hs : List HostBehaviour) → Bank Served hs → Type 0
 Clocked hs ms = Every (λ h x. (1 ≤ x.master.low) × (x.master.low ≤ 255) × (1 ≤ x.master.high) × (x.master.high ≤ 255)) hs ms
@@ -258,8 +262,8 @@ module _ (hs : List HostBehaviour) (ds : List Behaviour) where
     pub run_leaves : (n : ℕ) (a : ℕ → Holds ds) → (run_at hs ds x.bus n a).1 ≡ (calls x (runs n a)).bus
     -- a run is its ticks, so that the law holds between any two of them, and what is said of many ticks may begin and end there
     pub runs_are_ticks : (cs : List Call) → (used x cs ≡ used x (in_ticks x cs)) × (ticks_of x cs ≡ ticks_of x (in_ticks x cs))
-    -- any 160,000 ticks from a point with a master armed tell an outcome, whatever calls they come from
-    pub lively : any_true (armed_now x) ≡ true → (cs : List Call) → 160000 ≤ ticks_of x cs → x.told < (used x cs).told
+    -- as many ticks as a turn takes at most tell an outcome, from a point with a master armed, whatever calls they come from
+    pub lively : any_true (armed_now x) ≡ true → (cs : List Call) → most_ticks_of_turn ≤ ticks_of x cs → x.told < (used x cs).told
 
   -- the law at every point of every use of a bus from its making
   abbrev pub EveryUse : Bank Served hs → Bank PortModel ds → Type 0

@@ -1,5 +1,5 @@
 -- The text of a tick, where d is its number in digits: a line for each mark. Assumes nothing.
-use Rattle.std.specs.Prelude.{ℕ, suc, Bool, true, false, cond, Option, Some, None, List, [], ◌∷◌, ◌++◌, codes}
+use Rattle.std.specs.Prelude.{ℕ, suc, Bool, true, false, cond, List, [], ◌∷◌, ◌++◌, codes}
 use Rattle.std.specs.List.{flat_map}
 use Rattle.law.specs.Runs.{is_told}
 use Rattle.master.specs.declared.mark.Mark.{Mark}
@@ -51,10 +51,9 @@ abbrev pub numbers : (Mark → Bool) → ℕ → List Mark → List ℕ
 numbers p n [] = []
 numbers p n (m ∷ ms) = cond (p m) (n ∷ numbers p (suc n) ms) (numbers p (suc n) ms)
 
--- each number between two texts; nothing is said of it where nothing is said of the first
-abbrev pub numbers_text : Option (List ℕ) → List ℕ → List ℕ → Option (List ℕ)
-numbers_text None after ns = None
-numbers_text (Some before) after ns = Some (flat_map (λ n. before ++ (digit_code n ∷ after)) ns)
+-- each number between two texts
+abbrev pub numbers_text : List ℕ → List ℕ → List ℕ → List ℕ
+numbers_text before after ns = flat_map (λ n. before ++ (digit_code n ∷ after)) ns
 
 -- a bus has at most 8 masters, so the number of one is a digit
 abbrev pub loser_line : List ℕ → ℕ → List ℕ

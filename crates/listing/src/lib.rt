@@ -5,5 +5,4 @@ mod listing;
 mod marks;
 
 pub use listing::Listing;
-pub use marks::{Acknowledge, ByteMark, Marks, Numbers, WireMark};
-pub use text::{bytes_text, decimal, hex, outcome_text};
+pub use marks::{Acknowledge, ByteMark, Marks, WireMark, push_numbers};

@@ -6,7 +6,7 @@ use master::Mark;
 
 mod lines;
 
-pub use lines::Numbers;
+pub use lines::push_numbers;
 
 // The ninth bit of a byte.
 #[derive(Clone, Copy, PartialEq, Eq, Debug)]

@@ -1,18 +1,39 @@
-// Runs the bus until it is at rest, and prints what each tick shows.
+// Reads a byte for each of two masters, and prints the listing of their bus until it is at rest.
+ghost use Rattle.std.specs.Prelude.{◌≡◌, ℕ, List, IfOk, IfErr};
+ghost use Rattle.pairwrite.specs.Inputs.{Reads, FailsToRead, first_two};
+ghost use Rattle.pairwrite.specs.Runs.{PrintsInput};
+
+use crate::input::Input;
 use crate::setup::bus_of;
-use exchange::{Masters, Ports};
-use fault::Fault;
-use parts::TURN;
-use printing::print_run;
+use parts::ticks_of_turns;
+use printing::{Output, print_run};
+use std::io;
 
 const MASTERS: usize = 2;
 
-// Each of the two masters has one turn.
-const MOST_TICKS: u32 = 2 * TURN;
+// The first two bytes of the input, if it has as many.
+fn two_bytes<I: Input>(input: &mut I) -> io::Result<Option<[u8; 2]>>
+    ensures read { IfOk result (λ bytes. (xs : List ℕ) × Reads I.Input.gives input.old xs input.new × (bytes ≡ first_two xs)) }
+    ensures failed { IfErr result (FailsToRead I.Input.gives I.Input.fails input.old input.new) }
+{
+    let Some(first) = input.next()? else {
+        return Ok(None);
+    };
+    let Some(second) = input.next()? else {
+        return Ok(None);
+    };
+    Ok(Some([first, second]))
+}
 
-pub fn run(rt: &HostRuntime, first: u8, second: u8) -> Result<(), Fault> {
-    let mut bus = bus_of(first, second)?;
-    let ended = print_run(rt, &mut bus, MASTERS, MOST_TICKS);
+// Each of the two masters has one turn. Further bytes are not looked at.
+pub fn run<I: Input, O: Output>(input: &mut I, out: &mut O) -> io::Result<()>
+    ensures { PrintsInput I.Input.gives I.Input.fails O.Output.takes O.Output.fails input.old input.new out.old result out.new }
+{
+    let Some(bytes) = two_bytes(input)? else {
+        return Ok(());
+    };
+    let mut bus = bus_of(bytes[0], bytes[1]);
+    let ended = print_run(out, &mut bus, MASTERS, ticks_of_turns(2));
     let _ = bus.close();
     ended
 }

@@ -5,7 +5,9 @@
 mod arming;
 mod filled;
 mod pair;
+mod turn;
 
 pub use arming::arm_all;
 pub use filled::{list_of, queue_of};
-pub use pair::{Clocks, PairBus, TURN, pair_bus};
+pub use pair::{Clocks, PairBus, pair_bus};
+pub use turn::ticks_of_turns;

@@ -10,9 +10,6 @@ use master::Master;
 use port::Port;
 use transfer::{Address, ClockPair};
 
-// At the slowest clocks a turn ends within so many ticks.
-pub const TURN: u32 = 160_000;
-
 pub type PairBus<H> = Bus<(Master<H>, (Master<H>, End)), (Port<RegisterFile>, End)>;
 
 // The clock pairs of the two masters.

@@ -1,12 +1,75 @@
--- Ticks of a bus whose masters are armed before each of them. Assumes nothing.
-use Rattle.std.specs.Prelude.{◌≡◌, ℕ, zero, suc, List}
+-- A run of a bus whose masters are armed before each of its ticks, and what is printed of it. Assumes nothing.
+use Rattle.std.specs.Prelude.{◌≡◌, ℕ, zero, suc, ◌<◌, ◌≤◌, ◌⊎◌, true, false, cond, List, [], ◌++◌, decimal}
+use Rattle.std.specs.Fmt.{WritesInCalls}
+use Rattle.std.specs.declared.io.Error.{Error}
 use Rattle.device.specs.Behaviours.{Behaviour}
 use Rattle.host.specs.Behaviours.{HostBehaviour}
-use Rattle.law.specs.Buses.{BusModel, Holds, tick_at}
+use Rattle.law.specs.Buses.{BusModel, Holds, Answered, no_holds, tick_at, is_at_rest}
+use Rattle.listing.specs.declared.listing.Listing.{Listing}
+use Rattle.listing.specs.Lines.{lines_of}
+use Rattle.listing.specs.Listings.{new_listing, listing_step}
 use Rattle.parts.specs.Arms.{all_armed}
 
-module _ (hs : List HostBehaviour) (ds : List Behaviour) (masters : ℕ) where
-  -- n ticks lead from u to v, for some answers to hold; the masters are armed at the beginning and after each tick
-  abbrev pub Ran : ℕ → BusModel hs ds → BusModel hs ds → Type 0
-  Ran zero u v = v ≡ all_armed hs ds masters u
-  Ran (suc n) u v = (w : BusModel hs ds) × (h : Holds ds) × Ran n u w × (v ≡ all_armed hs ds masters (tick_at hs ds w h).1)
+module _ (hs : List HostBehaviour) (ds : List Behaviour) where
+  -- a bus, and the listing of its ticks so far
+  pub record Listened : Type 0 where
+    pub bus : BusModel hs ds
+    pub listing : Listing
+
+  -- before the first tick, with the first masters armed
+  abbrev pub setting_out : ℕ → BusModel hs ds → Listened
+  setting_out masters u = record { bus = all_armed hs ds masters u; listing = new_listing }
+
+  -- the lines of the next tick
+  abbrev pub next_lines : Listened → Holds ds → List ℕ
+  next_lines s h = let m = (listing_step s.listing (tick_at hs ds s.bus h).0).0 in lines_of (decimal m.tick) m
+
+  -- after the next tick, with the first masters armed again
+  abbrev pub ticked : ℕ → Listened → Holds ds → Listened
+  ticked masters s h = let t = tick_at hs ds s.bus h in
+      record { bus = all_armed hs ds masters t.1; listing = (listing_step s.listing t.0).1 }
+
+  -- n ticks lead from the bus u to s, and these are their lines, for some answers to hold that the devices may give; no tick
+  -- is made at rest
+  abbrev pub Ran : ℕ → ℕ → BusModel hs ds → List ℕ → Listened → Type 0
+  Ran masters zero u text s = (text ≡ []) × (s ≡ setting_out masters u)
+  Ran masters (suc n) u text s =
+      (r : Listened) × (before : List ℕ) × (h : Holds ds) × Ran masters n u before r
+      × (is_at_rest hs ds r.bus ≡ false) × Answered hs ds r.bus h × (text ≡ before ++ next_lines r h) × (s ≡ ticked masters r h)
+
+  -- the lines of n ticks at most from s on, where no device holds
+  unfoldable pub unheld_lines : ℕ → ℕ → Listened → List ℕ
+  unheld_lines masters zero s = []
+  unheld_lines masters (suc n) s =
+      cond (is_at_rest hs ds s.bus) [] (next_lines s (no_holds ds) ++ unheld_lines masters n (ticked masters s (no_holds ds)))
+
+  -- a run with this text: it ends at rest, or after the most ticks
+  pub record RunsTo (masters most : ℕ) (u : BusModel hs ds) (text : List ℕ) (end : Listened) : Type 0 where
+    pub ticks : ℕ
+    pub bounded : ticks ≤ most
+    pub ran : Ran masters ticks u text end
+    pub over : (ticks ≡ most) ⊎ (is_at_rest hs ds end.bus ≡ true)
+
+  module _ {W : Type 0} (takes : W → List ℕ → W → Type 0) where
+    -- a run from u to v of which all lines are written
+    pub record PrintsAll (masters most : ℕ) (u v : BusModel hs ds) (out after : W) : Type 0 where
+      pub text : List ℕ
+      pub end : Listened
+      pub run : RunsTo masters most u text end
+      pub written : WritesInCalls takes out text after
+      pub bus : v ≡ end.bus
+
+    -- the lines of so many ticks are written, the next tick is made, and the writing of its lines fails with e
+    pub record PrintsPart (fails : W → List ℕ → Error → W → Type 0) (masters most : ℕ) (u v : BusModel hs ds) (out after : W) (e : Error) : Type 0 where
+      pub ticks : ℕ
+      pub text : List ℕ
+      pub end : Listened
+      pub holds : Holds ds
+      pub between : W
+      pub bounded : ticks < most
+      pub ran : Ran masters ticks u text end
+      pub awake : is_at_rest hs ds end.bus ≡ false
+      pub answered : Answered hs ds end.bus holds
+      pub written : WritesInCalls takes out text between
+      pub failed : fails between (next_lines end holds) e after
+      pub bus : v ≡ (ticked masters end holds).bus

@@ -1,24 +1,30 @@
 // Ticks and their lines.
-ghost use Rattle.std.specs.Prelude.{◌≡◌, ℕ, ◌≤◌, ◌⊎◌, true, IfOk};
+ghost use Rattle.std.specs.Prelude.{ℕ, ◌<◌, ◌^◌, decimal, OnOk, IfErr};
 ghost use Rattle.exchange.specs.Parts.{bus_model};
-ghost use Rattle.law.specs.Buses.{is_at_rest};
-ghost use Rattle.printing.specs.Runs.{Ran};
+ghost use Rattle.law.specs.Buses.{NeverHold};
+ghost use Rattle.printing.specs.Outputs.{Puts};
+ghost use Rattle.printing.specs.Runs.{PrintsAll, PrintsPart, setting_out, unheld_lines};
+ghost use Rattle.text.specs.Decimals.{Decimal};
 
+use crate::output::Output;
 use exchange::{Bus, Masters, Ports};
-use fault::Fault;
 use listing::Listing;
 use parts::arm_all;
+use std::io;
 
 // Ticks until the bus is at rest, `most_ticks` times at most, and prints what each tick shows. The first `masters`
 // masters are armed at the beginning and after each tick. After a fault the bus stands, its masters armed, after the
-// tick that was not printed.
-pub fn print_run<M: Masters, P: Ports>(
-    rt: &HostRuntime,
+// tick that was not printed. The number in a line is the only decimal of its tick.
+pub fn print_run<M: Masters, P: Ports, O: Output>(
+    out: &mut O,
     bus: &mut Bus<M, P>,
     masters: usize,
     most_ticks: u32,
-) -> Result<(), Fault>
-    ensures { (n : ℕ) × (n ≤ most_ticks) × Ran M.Masters.hosts P.Ports.devices masters n (bus_model bus.old) (bus_model bus.new) × IfOk result (λ u. (n ≡ most_ticks) ⊎ (is_at_rest M.Masters.hosts P.Ports.devices (bus_model bus.new) ≡ true)) }
+) -> io::Result<()>
+    ensures all { OnOk result (PrintsAll _ _ O.Output.takes masters most_ticks (bus_model bus.old) (bus_model bus.new) out.old out.new) }
+    ensures part { IfErr result (PrintsPart _ _ O.Output.takes O.Output.fails masters most_ticks (bus_model bus.old) (bus_model bus.new) out.old out.new) }
+    ensures unheld { NeverHold P.Ports.devices → Puts O.Output.takes O.Output.fails (unheld_lines _ _ masters most_ticks (setting_out _ _ masters (bus_model bus.old))) out.old result out.new }
+    ensures numbers { (n : ℕ) → n < 2 ^ 64 → Decimal n (decimal n) }
 {
     let mut listing = Listing::new();
     arm_all(bus, masters);
@@ -28,7 +34,10 @@ pub fn print_run<M: Masters, P: Ports>(
         }
         let tick = bus.tick();
         arm_all(bus, masters);
-        rt.print(listing.step(&tick))?;
+        let lines = listing.step(&tick).lines();
+        if let Err(error) = out.put(lines.as_str().as_bytes()) {
+            return Err(error);
+        }
     }
     Ok(())
 }

@@ -1,6 +1,8 @@
 // Digits, and a byte in two of them.
-ghost use Rattle.std.specs.Prelude.{◌≡◌, ◌<◌};
+ghost use Rattle.std.specs.Prelude.{◌≡◌, ◌+◌, ◌<◌, ◌≤◌, ◌++◌, length};
 ghost use Rattle.text.specs.Digits.{digit_code, hex_digits};
+
+use arrayvec::ArrayString;
 
 // The digit of this value: 0 to 9, and then A to F.
 pub fn digit(value: u8) -> char
@@ -14,8 +16,10 @@ pub fn digit(value: u8) -> char
 }
 
 // A byte in two capital hexadecimal digits.
-pub fn hex(byte: u8) -> [char; 2]
-    ensures { result ≡ hex_digits byte }
+pub fn push_hex<const N: usize>(text: &mut ArrayString<N>, byte: u8)
+    requires { length text.old.bytes + 2 ≤ N }
+    ensures { text.new.bytes ≡ text.old.bytes ++ hex_digits byte }
 {
-    [digit(byte / 16), digit(byte % 16)]
+    text.push(digit(byte / 16));
+    text.push(digit(byte % 16));
 }

@@ -1,11 +1,11 @@
-// Numbers, bytes and outcomes as text.
+// Numbers, bytes and outcomes as text, put at the end of a text of fixed size. None of these can fail: each asks for room.
 #![tactic(auto)]
 
-// `HexBytes` and `OutcomeText` print by Display; the functions are for callers who want characters or a String.
 mod digits;
 mod numeral;
 mod outcome;
 
-pub use digits::{digit, hex};
-pub use numeral::decimal;
-pub use outcome::{HexBytes, OutcomeText, bytes_text, outcome_text};
+pub use arrayvec::ArrayString;
+pub use digits::{digit, push_hex};
+pub use numeral::push_decimal;
+pub use outcome::{push_bytes, push_outcome};

@@ -1,12 +1,17 @@
 // A number in decimal.
-ghost use Rattle.std.specs.Prelude.{◌≡◌, ℕ, List, IfOk, string_bytes};
+ghost use Rattle.std.specs.Prelude.{◌≡◌, ℕ, ◌+◌, ◌≤◌, ◌++◌, List, length, decimal};
 ghost use Rattle.text.specs.Decimals.{Decimal};
 
-use std::alloc::{AllocError, Global};
+use arrayvec::ArrayString;
+use itoa::Buffer;
 
-pub fn decimal(heap: Global, number: u64) -> Result<String, AllocError>
-    ensures value { IfOk result (λ s. Decimal number (string_bytes s)) }
-    ensures only { IfOk result (λ s. (t : List ℕ) → Decimal number t → t ≡ string_bytes s) }
+// The digits that it puts are a decimal of the number, and no other text is one. A number of 64 bits has 20 at most.
+pub fn push_decimal<const N: usize>(text: &mut ArrayString<N>, number: u64)
+    requires { length text.old.bytes + 20 ≤ N }
+    ensures text { text.new.bytes ≡ text.old.bytes ++ decimal number }
+    ensures short { length text.new.bytes ≤ length text.old.bytes + 20 }
+    ensures number { Decimal number (decimal number) }
+    ensures only { (t : List ℕ) → Decimal number t → t ≡ decimal number }
 {
-    number.to_string(heap)
+    text.push_str(Buffer::new().format(number));
 }

@@ -1,53 +1,46 @@
 // What a host was told, as text.
-ghost use Rattle.std.specs.Prelude.{◌≡◌, IfOk, Some, string_bytes};
+ghost use Rattle.std.specs.Prelude.{◌≡◌, ◌+◌, ◌*◌, ◌≤◌, ◌++◌, length};
 ghost use Rattle.transfer.specs.Outcomes.{outcome_model};
 ghost use Rattle.text.specs.Outcomes.{bytes_text, outcome_text};
 
-use std::alloc::{AllocError, Global};
-use std::fmt::{self, Display};
+use crate::digits::push_hex;
+use crate::numeral::push_decimal;
+use arrayvec::ArrayString;
 use transfer::{Outcome, OutcomeKind};
 
 // Each byte as a space and two capital hexadecimal digits.
-#[derive(Clone, Copy)]
-pub struct HexBytes<'a>(pub &'a [u8]);
-
-impl Display for HexBytes<'_> {
-    ghost output = { λ b. Some (bytes_text b.0.now) };
-
-    fn fmt<W: fmt::Write>(&self, f: &mut fmt::Formatter<W>) -> fmt::Result {
-        for &byte in self.0 {
-            write!(f, " {byte:02X}")?;
-        }
-        Ok(())
+pub fn push_bytes<const N: usize>(text: &mut ArrayString<N>, bytes: &[u8])
+    requires { length text.old.bytes + 3 * length bytes.now ≤ N }
+    ensures text { text.new.bytes ≡ text.old.bytes ++ bytes_text bytes.now }
+    ensures len { length text.new.bytes ≡ length text.old.bytes + 3 * length bytes.now }
+{
+    for &byte in bytes {
+        text.push_str(" ");
+        push_hex(text, byte);
     }
 }
 
-// An outcome in the words of a run's last lines: legs and bytes count from 0.
-#[derive(Clone, Copy)]
-pub struct OutcomeText<'a>(pub &'a Outcome);
-
-impl Display for OutcomeText<'_> {
-    ghost output = { λ o. Some (outcome_text (outcome_model o.0.now)) };
-
-    fn fmt<W: fmt::Write>(&self, f: &mut fmt::Formatter<W>) -> fmt::Result {
-        match self.0.kind {
-            OutcomeKind::Done => write!(f, "done{}", HexBytes(self.0.read.as_slice())),
-            OutcomeKind::NoAnswer(place) => write!(f, "no answer to leg {}", place.leg),
-            OutcomeKind::Refused(place) => {
-                write!(f, "byte {} of leg {} refused", place.byte, place.leg)
-            }
+// An outcome in the words of a run's last lines: legs and bytes count from 0. An outcome has 32 bytes at most.
+pub fn push_outcome<const N: usize>(text: &mut ArrayString<N>, outcome: &Outcome)
+    requires { length text.old.bytes + 100 ≤ N }
+    ensures text { text.new.bytes ≡ text.old.bytes ++ outcome_text (outcome_model outcome.now) }
+    ensures short { length text.new.bytes ≤ length text.old.bytes + 100 }
+{
+    match outcome.kind {
+        OutcomeKind::Done => {
+            text.push_str("done");
+            push_bytes(text, outcome.read.as_slice());
+        }
+        OutcomeKind::NoAnswer(place) => {
+            text.push_str("no answer to leg ");
+            push_decimal(text, place.leg.into());
+        }
+        OutcomeKind::Refused(place) => {
+            text.push_str("byte ");
+            push_decimal(text, place.byte.into());
+            text.push_str(" of leg ");
+            push_decimal(text, place.leg.into());
+            text.push_str(" refused");
         }
     }
-}
-
-pub fn bytes_text(heap: Global, bytes: &[u8]) -> Result<String, AllocError>
-    ensures { IfOk result (λ s. string_bytes s ≡ bytes_text bytes.now) }
-{
-    HexBytes(bytes).to_string(heap)
-}
-
-pub fn outcome_text(heap: Global, outcome: &Outcome) -> Result<String, AllocError>
-    ensures { IfOk result (λ s. string_bytes s ≡ outcome_text (outcome_model outcome.now)) }
-{
-    OutcomeText(outcome).to_string(heap)
 }

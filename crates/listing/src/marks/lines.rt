@@ -1,95 +1,120 @@
 // The lines of a tick: its number and a mark on each.
-ghost use Rattle.std.specs.Prelude.{◌≡◌, ℕ, List, [], ◌∷◌, Some, IfOk, string_bytes, decimal};
+ghost use Rattle.std.specs.Prelude.{◌≡◌, ◌+◌, ◌*◌, ◌≤◌, [], ◌∷◌, ◌++◌, length, decimal};
 ghost use Rattle.text.specs.Decimals.{Decimal};
-ghost use Rattle.listing.specs.Lines.{letter_of, byte_text, is_mark, numbers, numbers_text, lines_of};
+ghost use Rattle.listing.specs.Lines.{letter_of, byte_text, wire_line, loser_lines, stop_line, is_mark, numbers, numbers_text, lines_of};
 
 use super::{Acknowledge, ByteMark, Marks, WireMark};
 use master::Mark;
-use std::alloc::{AllocError, Global};
-use std::fmt::{self, Display};
+use text::{ArrayString, digit, push_decimal, push_hex};
 
-impl Display for Acknowledge {
-    ghost output = { λ a. Some (letter_of a ∷ []) };
+// Room for the longest lines of a tick, whose number has 20 digits at most: one of 26 bytes, 8 of 25, and one of 39.
+const LINES: usize = 265;
 
-    fn fmt<W: fmt::Write>(&self, f: &mut fmt::Formatter<W>) -> fmt::Result {
-        f.write_str(match self {
+impl Acknowledge {
+    pub fn letter(self) -> &'static str
+        ensures { result.now ≡ letter_of self ∷ [] }
+    {
+        match self {
             Acknowledge::A => "A",
             Acknowledge::N => "N",
-        })
+        }
     }
 }
 
-impl Display for ByteMark {
-    ghost output = { λ b. Some (byte_text b) };
-
-    fn fmt<W: fmt::Write>(&self, f: &mut fmt::Formatter<W>) -> fmt::Result {
-        let ByteMark { value, acknowledge } = *self;
-        write!(f, "{value:02X} {acknowledge}")
+impl ByteMark {
+    pub fn push_to<const N: usize>(self, text: &mut ArrayString<N>)
+        requires { length text.old.bytes + 4 ≤ N }
+        ensures { text.new.bytes ≡ text.old.bytes ++ byte_text self }
+    {
+        push_hex(text, self.value);
+        text.push_str(" ");
+        text.push_str(self.acknowledge.letter());
     }
 }
 
-// The masters with this mark, the lowest first, the number of each between two texts.
-#[derive(Clone, Copy)]
-pub struct Numbers<D> {
-    pub masters: [Mark; 8],
-    pub mark: Mark,
-    pub before: D,
-    pub after: &'static str,
-}
-
-impl<D: Display> Display for Numbers<D> {
-    ghost output = { λ n. numbers_text (D.output n.before) n.after.now (numbers (is_mark n.mark) 0 n.masters) };
-
-    fn fmt<W: fmt::Write>(&self, f: &mut fmt::Formatter<W>) -> fmt::Result {
-        let before = &self.before;
-        let after = self.after;
-        for (number, mark) in self.masters.iter().enumerate() {
-            if *mark == self.mark {
-                write!(f, "{before}{number}{after}")?;
-            }
+// The number of each master with this mark, the lowest first, between two texts.
+pub fn push_numbers<const N: usize>(
+    text: &mut ArrayString<N>,
+    masters: &[Mark; 8],
+    wanted: Mark,
+    before: &str,
+    after: &str,
+)
+    requires { length text.old.bytes + 8 * (length before.now + 1 + length after.now) ≤ N }
+    ensures text { text.new.bytes ≡ text.old.bytes ++ numbers_text before.now after.now (numbers (is_mark wanted) 0 masters.now) }
+    ensures short { length text.new.bytes ≤ length text.old.bytes + 8 * (length before.now + 1 + length after.now) }
+{
+    for (number, mark) in masters.iter().enumerate() {
+        if *mark == wanted {
+            text.push_str(before);
+            text.push(digit(number as u8));
+            text.push_str(after);
         }
-        Ok(())
     }
 }
 
-// A start, a byte, the losers and a stop, in this order.
-impl Display for Marks {
-    ghost output = { λ m. Some (lines_of (decimal m.tick) m) };
+// The line of a start or of a byte; a stop has its own at the end.
+fn push_wire<const N: usize>(text: &mut ArrayString<N>, number: &str, wire: WireMark)
+    requires { length text.old.bytes + length number.now + 6 ≤ N }
+    ensures text { text.new.bytes ≡ text.old.bytes ++ wire_line number.now wire }
+    ensures short { length text.new.bytes ≤ length text.old.bytes + length number.now + 6 }
+{
+    match wire {
+        WireMark::Start => {
+            text.push_str(number);
+            text.push_str(" S\n");
+        }
+        WireMark::Byte(byte) => {
+            text.push_str(number);
+            text.push_str(" ");
+            byte.push_to(text);
+            text.push_str("\n");
+        }
+        WireMark::Quiet | WireMark::Stop => {}
+    }
+}
 
-    fn fmt<W: fmt::Write>(&self, f: &mut fmt::Formatter<W>) -> fmt::Result {
-        let tick = self.tick;
-        match self.wire {
-            WireMark::Start => writeln!(f, "{tick} S")?,
-            WireMark::Byte(byte) => writeln!(f, "{tick} {byte}")?,
-            WireMark::Quiet | WireMark::Stop => {}
-        }
-        let masters = self.masters;
-        let losers = Numbers {
-            masters,
-            mark: Mark::Lost,
-            before: format_args!("{tick} L "),
-            after: "\n",
-        };
-        write!(f, "{losers}")?;
-        if self.wire == WireMark::Stop {
-            let told = Numbers {
-                masters,
-                mark: Mark::Told,
-                before: " ",
-                after: "",
-            };
-            writeln!(f, "{tick} P{told}")?;
-        }
-        Ok(())
+fn push_losers<const N: usize>(text: &mut ArrayString<N>, number: &str, masters: &[Mark; 8])
+    requires digits { length number.now ≤ 20 }
+    requires room { length text.old.bytes + 8 * (length number.now + 5) ≤ N }
+    ensures text { text.new.bytes ≡ text.old.bytes ++ loser_lines number.now masters.now }
+    ensures short { length text.new.bytes ≤ length text.old.bytes + 8 * (length number.now + 5) }
+{
+    let mut before = ArrayString::<23>::new();
+    before.push_str(number);
+    before.push_str(" L ");
+    push_numbers(text, masters, Mark::Lost, before.as_str(), "\n");
+}
+
+fn push_stop<const N: usize>(
+    text: &mut ArrayString<N>,
+    number: &str,
+    wire: WireMark,
+    masters: &[Mark; 8],
+)
+    requires { length text.old.bytes + length number.now + 19 ≤ N }
+    ensures { text.new.bytes ≡ text.old.bytes ++ stop_line number.now wire masters.now }
+{
+    if wire == WireMark::Stop {
+        text.push_str(number);
+        text.push_str(" P");
+        push_numbers(text, masters, Mark::Told, " ", "");
+        text.push_str("\n");
     }
 }
 
 impl Marks {
-    pub fn text(&self, heap: Global) -> Result<String, AllocError>
-        ensures { IfOk result (λ s. (d : List ℕ) × Decimal self.now.tick d × (string_bytes s ≡ lines_of d self.now)) }
+    // A start, a byte, the losers and a stop, in this order.
+    pub fn lines(&self) -> ArrayString<LINES>
+        ensures lines { result.bytes ≡ lines_of (decimal self.now.tick) self.now }
+        ensures number { Decimal self.now.tick (decimal self.now.tick) }
     {
-        // read for its range, without which its text is not proved to be a decimal
-        let _tick = self.tick;
-        self.to_string(heap)
+        let mut number = ArrayString::<20>::new();
+        push_decimal(&mut number, self.tick);
+        let mut text = ArrayString::new();
+        push_wire(&mut text, number.as_str(), self.wire);
+        push_losers(&mut text, number.as_str(), &self.masters);
+        push_stop(&mut text, number.as_str(), self.wire, &self.masters);
+        text
     }
 }

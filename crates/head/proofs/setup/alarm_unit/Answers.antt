@@ -1,14 +1,16 @@
 use Rattle.std.proofs.Common.{refl}
+use Rattle.transfer.specs.Drafts.{transfer_model}
 use Rattle.transfer.specs.Wholes.{one_read}
 use Rattle.host.specs.PollHosts.{poll_host}
 use Rattle.head.proofs.Heads.{at, serves}
-use Rattle.parts.proofs.Made.{ok_same}
+use Rattle.parts.proofs.Made.{ok_same, unwrapped}
 use Rattle.head.proofs.setup.alarm_unit.Goals as goal
 
 pub returns : goal.returns
 returns c =
-    let read = at (λ n. one_read n 1) _ _ _ _ c.in_ok-read.ensures (ok_same c.in_ok-new.ensures) refl in (
+    let at_81 = ok_same (unwrapped (λ a. a.number) _ _ _ c.new-2.ensures c.unwrap.ensures) in
+    let read = at (λ n. one_read n 1) _ _ _ _ (unwrapped transfer_model _ _ _ c.read.ensures c.unwrap-read.ensures) at_81 refl in (
       _,
-      (c.in_ok-read.read, read, refl),
-      serves poll_host _ _ _ _ _ c.new-4.ensures (ok_same c.in_ok-clock.ensures) c.new-3.ensures,
+      (c.unwrap-read.result, read, refl),
+      serves poll_host _ _ _ _ _ c.new-4.ensures (ok_same (unwrapped (λ k. (k.low, k.high)) _ _ _ c.new.ensures c.unwrap-clock.ensures)) c.new-3.ensures,
     )

@@ -1,12 +1,13 @@
+use Rattle.device.specs.EventQueues.{queued}
 use Rattle.head.proofs.Heads.{idle_is, head_is}
-use Rattle.parts.proofs.Made.{ok_same}
+use Rattle.parts.proofs.Made.{ok_same, unwrapped}
 use Rattle.head.proofs.setup.head_bus.Goals as goal
 
 pub returns : goal.returns
 returns c =
-    let (a, lists, first) = c.in_ok-logger.ensures in
-    let (b, polls, second) = c.in_ok-alarm_unit.ensures in
-    let (d, more, third) = c.in_ok-service_port.ensures in (
+    let (a, lists, first) = c.logger.ensures in
+    let (b, polls, second) = c.alarm_unit.ensures in
+    let (d, more, third) = c.service_port.ensures in (
       a,
       b,
       d,
@@ -14,6 +15,8 @@ returns c =
       polls,
       more,
       head_is _ _ _ _ _ _ _ _ _ _ _ _ a b d c.new-8.ensures.made first second third c.new-5.ensures c.new-6.ensures c.new-7.ensures
-          (ok_same c.in_ok-registers.ensures) (ok_same c.in_ok-events.ensures) (idle_is _ _ c.new-4.ensures c.new-3.ensures)
-          c.in_ok-slow.ensures.1 (ok_same c.in_ok-quick.ensures),
+          (ok_same (unwrapped (λ a. a.number) _ _ _ c.new.ensures c.unwrap-registers.ensures))
+          (ok_same (unwrapped (λ a. a.number) _ _ _ c.new-2.ensures c.unwrap-events.ensures))
+          (idle_is _ _ c.new-4.ensures c.new-3.ensures) c.slow_events-slow.ensures
+          (ok_same (unwrapped queued _ _ _ c.queue_of.ensures c.unwrap-quick.ensures)),
     )

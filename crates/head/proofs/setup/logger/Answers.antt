@@ -1,16 +1,18 @@
 use Rattle.std.proofs.Common.{[], ◌∷◌, refl}
+use Rattle.transfer.specs.Drafts.{transfer_model}
 use Rattle.transfer.specs.Wholes.{one_write, write_and_read}
-use Rattle.host.specs.ListHosts.{list_host}
+use Rattle.host.specs.ListHosts.{list_host, listed}
 use Rattle.head.proofs.Heads.{at, serves}
-use Rattle.parts.proofs.Made.{ok_same}
+use Rattle.parts.proofs.Made.{ok_same, unwrapped}
 use Rattle.head.proofs.setup.logger.Goals as goal
 
 pub returns : goal.returns
 returns c =
-    let at_80 = ok_same c.in_ok-registers.ensures in
-    let write = at (λ n. one_write n (3 ∷ 127 ∷ 128 ∷ [])) _ _ _ _ c.in_ok-write.ensures at_80 refl in
-    let read = at (λ n. write_and_read n (3 ∷ []) 2) _ _ _ _ c.in_ok-read.ensures at_80 refl in (
+    let at_80 = ok_same (unwrapped (λ a. a.number) _ _ _ c.new-2.ensures c.unwrap-registers.ensures) in
+    let write = at (λ n. one_write n (3 ∷ 127 ∷ 128 ∷ [])) _ _ _ _ (unwrapped transfer_model _ _ _ c.write.ensures c.unwrap-write.ensures) at_80 refl in
+    let read = at (λ n. write_and_read n (3 ∷ []) 2) _ _ _ _ (unwrapped transfer_model _ _ _ c.write_then_read.ensures c.unwrap-read.ensures) at_80 refl in (
       _,
-      (c.in_ok-write.write, c.in_ok-read.read, write, read, refl),
-      serves list_host _ _ _ _ _ c.new-3.ensures (ok_same c.in_ok-clock.ensures) (ok_same c.in_ok-list_of.ensures),
+      (c.unwrap-write.result, c.unwrap-read.result, write, read, refl),
+      serves list_host _ _ _ _ _ c.new-3.ensures (ok_same (unwrapped (λ k. (k.low, k.high)) _ _ _ c.new.ensures c.unwrap-clock.ensures))
+          (ok_same (unwrapped listed _ _ _ c.list_of.ensures c.unwrap.ensures)),
     )

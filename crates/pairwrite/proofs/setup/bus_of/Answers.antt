@@ -1,12 +1,12 @@
 use Rattle.std.proofs.Common.{◌≡◌, ℕ, [], ◌∷◌, None, Ok, refl}
-use Rattle.transfer.specs.Drafts.{TransferModel}
+use Rattle.transfer.specs.Drafts.{TransferModel, transfer_model}
 use Rattle.transfer.specs.Wholes.{one_write}
 use Rattle.device.specs.RegisterFiles.{register_file, new_registers}
-use Rattle.host.specs.ListHosts.{Listed, list_host}
+use Rattle.host.specs.ListHosts.{Listed, list_host, listed}
 use Rattle.law.specs.Buses.{BusModel, made}
 use Rattle.port.specs.Ports.{new_port}
 use Rattle.pairwrite.specs.Setups.{register_write, serving, pair}
-use Rattle.parts.proofs.Made.{ok_same}
+use Rattle.parts.proofs.Made.{ok_same, unwrapped}
 use Rattle.pairwrite.proofs.setup.bus_of.Goals as goal
 
 write_is : (t : TransferModel) (a byte : ℕ) → Ok t ≡ one_write a (3 ∷ byte ∷ []) → a ≡ 80 → t ≡ register_write byte
@@ -19,12 +19,16 @@ pair_is u a x y m n m' n' e at_80 quick slow first second = cc
 
 pub returns : goal.returns
 returns c =
-    let t = c.in_ok-first.first in
-    let u = c.in_ok-second.second in
-    let at_80 = ok_same c.in_ok-address.ensures in (
+    let t = c.unwrap-first.result in
+    let u = c.unwrap-second.result in
+    let at_80 = ok_same (unwrapped (λ a. a.number) _ _ _ c.new.ensures c.unwrap-address.ensures) in (
       record { rest = t ∷ []; last = None },
       record { rest = u ∷ []; last = None },
-      (t, write_is _ _ _ c.in_ok-first.ensures at_80, refl),
-      (u, write_is _ _ _ c.in_ok-second.ensures at_80, refl),
-      pair_is _ _ _ _ _ _ _ _ c.pair_bus.ensures at_80 (ok_same c.in_ok-new.ensures) (ok_same c.in_ok-new-2.ensures) (ok_same c.in_ok-list_of.ensures) (ok_same c.in_ok-list_of-2.ensures),
+      (t, write_is _ _ _ (unwrapped transfer_model _ _ _ c.write.ensures c.unwrap-first.ensures) at_80, refl),
+      (u, write_is _ _ _ (unwrapped transfer_model _ _ _ c.write-2.ensures c.unwrap-second.ensures) at_80, refl),
+      pair_is _ _ _ _ _ _ _ _ c.pair_bus.ensures at_80
+          (ok_same (unwrapped (λ k. (k.low, k.high)) _ _ _ c.new-2.ensures c.unwrap.ensures))
+          (ok_same (unwrapped (λ k. (k.low, k.high)) _ _ _ c.new-3.ensures c.unwrap-2.ensures))
+          (ok_same (unwrapped listed _ _ _ c.list_of.ensures c.unwrap-3.ensures))
+          (ok_same (unwrapped listed _ _ _ c.list_of-2.ensures c.unwrap-4.ensures)),
     )

@@ -1,3 +1,5 @@
+use Rattle.std.proofs.Common.{ℕ, List}
+use Rattle.std.specs.Fmt.{WritesInCalls}
 use Rattle.exchange.specs.Parts.{bus_model}
 use Rattle.printing.specs.Runs.{Ran}
 use Rattle.printing.proofs.run.print_run.Given as goal
@@ -6,4 +8,5 @@ abbrev pub invariant-loop-made : goal.invariant-loop-made
 invariant-loop-made g l =
     let hs = g.M.Masters.hosts in
     let ds = g.P.Ports.devices in
-    Ran hs ds l.masters l._made (bus_model l.fn.bus) (bus_model l.bus)
+    (text : List ℕ) × Ran hs ds l.masters l._made (bus_model l.fn.bus) text (record { bus = bus_model l.bus; listing = l.listing })
+    × WritesInCalls g.O.Output.takes l.fn.out text l.out

@@ -1,0 +1,34 @@
+-- What the program prints. Assumes nothing.
+use Rattle.std.specs.Prelude.{◌≡◌, ℕ, ◌*◌, ◌⊎◌, List, [], ◌++◌, codes, decimal, Option, Some, None, Err, Result}
+use Rattle.std.specs.declared.io.Error.{Error}
+use Rattle.transfer.specs.Outcomes.{OutcomeModel}
+use Rattle.law.specs.Buses.{BusModel}
+use Rattle.law.specs.Laws.{most_ticks_of_turn}
+use Rattle.printing.specs.Outputs.{Puts}
+use Rattle.printing.specs.Runs.{Listened, RunsTo, PrintsPart}
+use Rattle.text.specs.Outcomes.{bytes_text, outcome_text}
+use Rattle.head.specs.Setups.{head_hosts, head_devices, IsHead}
+
+-- what master n was told last, if it was told anything
+abbrev pub told_line : ℕ → Option OutcomeModel → List ℕ
+told_line n None = []
+told_line n (Some o) = codes "master " ++ (decimal n ++ (codes ": " ++ (outcome_text o ++ codes "\n")))
+
+abbrev pub registers_line : List ℕ → List ℕ
+registers_line xs = codes "registers:" ++ (bytes_text xs ++ codes "\n")
+
+-- the last outcome of each master, and then the registers
+abbrev pub end_text : BusModel head_hosts head_devices → List ℕ
+end_text u =
+    told_line 0 u.masters.0.meaning.last
+    ++ (told_line 1 u.masters.1.0.meaning.last ++ (told_line 2 u.masters.1.1.0.meaning.last ++ registers_line u.ports.0.meaning.below.bytes))
+
+abbrev pub most_ticks : ℕ
+most_ticks = 16 * most_ticks_of_turn
+
+module _ {W : Type 0} (takes : W → List ℕ → W → Type 0) (fails : W → List ℕ → Error → W → Type 0) where
+  -- a write fails in the run; or the run is whole, and its lines and those of its end are written, or a first part of them
+  abbrev pub PrintsHead : W → Result (Unit {0}) Error → W → Type 0
+  PrintsHead out r after = (u : BusModel head_hosts head_devices) × IsHead u × (
+      ((e : Error) × (v : BusModel head_hosts head_devices) × (r ≡ Err e) × PrintsPart head_hosts head_devices takes fails 3 most_ticks u v out after e)
+      ⊎ ((text : List ℕ) × (end : Listened head_hosts head_devices) × RunsTo head_hosts head_devices 3 most_ticks u text end × Puts takes fails (text ++ end_text end.bus) out r after))

@@ -1,0 +1,31 @@
+use Rattle.std.proofs.Common.{◌≡◌, ℕ, List, [], ◌∷◌, inr, sym, ap, ◌∙◌, subst}
+use Rattle.std.proofs.Output.{writes_in_calls_nil}
+use Rattle.exchange.specs.Parts.{bus_model}
+use Rattle.device.specs.RegisterFiles.{register_file}
+use Rattle.host.specs.ListHosts.{list_host}
+use Rattle.printing.specs.Outputs.{Puts}
+use Rattle.printing.specs.Runs.{setting_out, unheld_lines}
+use Rattle.pairwrite.specs.Runs.{run_lines}
+use Rattle.pairwrite.proofs.Texts.{none, two}
+use Rattle.pairwrite.proofs.run.run.Goals as goal
+
+pub returns-in_default : goal.returns-in_default
+returns-in_default g c =
+    let (xs, reads, is) = c.in_ok-bytes.ensures.read in
+    inr (xs, [], reads, none xs (sym c.in_default.is ∙ is), writes_in_calls_nil g.O.Output.takes _)
+
+pub returns : goal.returns
+returns g c =
+    let (xs, reads, is) = c.in_ok-bytes.ensures.read in
+    let (m, n, first, second, bus_is) = c.bus_of-bus.ensures in
+    let hs = list_host ∷ list_host ∷ [] in
+    let ds = register_file ∷ [] in
+    let text : unheld_lines hs ds 2 c.ticks_of_turns.result (setting_out hs ds 2 (bus_model c.bus_of-bus.result)) ≡ run_lines m n = rw c.ticks_of_turns.ensures (ap (λ u. unheld_lines hs ds 2 320000 (setting_out hs ds 2 u)) bus_is) in
+    inr (
+      xs,
+      run_lines m n,
+      reads,
+      two xs c.in-Some.bytes m n (sym c.in-Some.is ∙ is) first second,
+      subst (λ x. Puts g.O.Output.takes g.O.Output.fails x c.args.out.now c.print_run-ended.result c.print_run-ended.new.out) text
+          (c.print_run-ended.ensures.unheld ((λ meaning h e. e), tt)),
+    )

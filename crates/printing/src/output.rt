@@ -1,0 +1,31 @@
+// Where a program prints.
+ghost use Rattle.std.specs.Prelude.{ℕ, List, OnOk, IfErr};
+ghost use Rattle.std.specs.declared.io.Error.{Error as Failure};
+ghost use Rattle.std.specs.Io.KnownBytes.{Appends};
+
+use std::io::{self, Write};
+
+// A trait beside std's `Write`, whose contracts say nothing of a write that fails: under it a program that only fails
+// would be proved. Here a failure is named, and only a write that failed gives one.
+pub trait Output {
+    // The output before a write that succeeds, the bytes, and the output after it.
+    ghost takes: { Self → List ℕ → Self → Type 0 };
+
+    // The same of a write that fails, with its error.
+    ghost fails: { Self → List ℕ → Failure → Self → Type 0 };
+
+    fn put(&mut self, bytes: &[u8]) -> io::Result<()>
+        ensures taken { OnOk result (takes self.old bytes.now self.new) }
+        ensures failed { IfErr result (λ e. fails self.old bytes.now e self.new) };
+}
+
+// std says nothing of what a writer holds after a `write_all` that fails.
+impl<W: Write> Output for W {
+    ghost takes = { λ s bytes t. Appends (W.Write.contents s) (W.Write.contents t) bytes };
+
+    ghost fails = { λ _ _ _ _. Unit {0} };
+
+    fn put(&mut self, bytes: &[u8]) -> io::Result<()> {
+        self.write_all(bytes)
+    }
+}
