@@ -77,7 +77,7 @@ pub record FirstDifference (t u : List Letter) (c : ℕ) : Type 0 where
   pub same : (k : ℕ) → k < c → slice_index_or t k low ≡ slice_index_or u k low
   pub less : rank (slice_index_or t c low) < rank (slice_index_or u c low)
 
--- within so many ticks an outcome is told, where a master is armed; so long takes a turn at the slowest clocks and holds
+-- no so many ticks with a master armed pass without an outcome: a turn takes fewer, at the slowest clocks and holds too
 abbrev pub most_ticks_of_turn : ℕ
 most_ticks_of_turn = 160000
 
@@ -262,7 +262,7 @@ module _ (hs : List HostBehaviour) (ds : List Behaviour) where
     pub run_leaves : (n : ℕ) (a : ℕ → Holds ds) → (run_at hs ds x.bus n a).1 ≡ (calls x (runs n a)).bus
     -- a run is its ticks, so that the law holds between any two of them, and what is said of many ticks may begin and end there
     pub runs_are_ticks : (cs : List Call) → (used x cs ≡ used x (in_ticks x cs)) × (ticks_of x cs ≡ ticks_of x (in_ticks x cs))
-    -- as many ticks as a turn takes at most tell an outcome, from a point with a master armed, whatever calls they come from
+    -- from a point with a master armed so many ticks tell an outcome, whatever calls they come from
     pub lively : any_true (armed_now x) ≡ true → (cs : List Call) → most_ticks_of_turn ≤ ticks_of x cs → x.told < (used x cs).told
 
   -- the law at every point of every use of a bus from its making
