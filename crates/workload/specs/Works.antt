@@ -4,7 +4,7 @@ use Rattle.transfer.specs.Drafts.{TransferModel}
 use Rattle.transfer.specs.Legs.{writes}
 use Rattle.device.specs.Behaviours.{Behaviour}
 use Rattle.host.specs.Behaviours.{HostBehaviour}
-use Rattle.law.specs.Buses.{BusModel, Holds, tick_at, is_at_rest}
+use Rattle.law.specs.Buses.{BusModel, Holds, Answered, tick_at, is_at_rest}
 use Rattle.law.specs.Runs.{tolds}
 use Rattle.parts.specs.Arms.{all_armed}
 use Rattle.wire.specs.declared.wire.Event.{Event}
@@ -31,8 +31,8 @@ module _ (hs : List HostBehaviour) (ds : List Behaviour) (masters : ℕ) where
   abbrev pub round : ℕ → BusModel hs ds → Holds ds → ℕ × BusModel hs ds
   round count u h = let a = tick_at hs ds (readied u) h in (counted a.0.event count (tolds a.0.marks), a.1)
 
-  -- from u so many ticks lead to v, and count so many outcomes, for some answers to hold
+  -- from u so many ticks lead to v, and count so many outcomes, for some answers to hold that the devices may give
   abbrev pub Worked : ℕ → BusModel hs ds → ℕ → BusModel hs ds → Type 0
   Worked zero u count v = (count ≡ 0) × (v ≡ u)
   Worked (suc n) u count v =
-      (before : ℕ) × (w : BusModel hs ds) × (h : Holds ds) × Worked n u before w × ((count, v) ≡ round before w h)
+      (before : ℕ) × (w : BusModel hs ds) × (h : Holds ds) × Worked n u before w × Answered hs ds (readied w) h × ((count, v) ≡ round before w h)

@@ -1,22 +1,22 @@
-use Rattle.std.proofs.Common.{◌≡◌, ℕ, ◌+◌, List, ap, ◌∙◌, add-one}
+use Rattle.std.proofs.Common.{◌≡◌, ℕ, ◌+◌, List, ap, ◌∙◌, subst, add-one}
 use Rattle.device.specs.Behaviours.{Behaviour}
 use Rattle.host.specs.Behaviours.{HostBehaviour}
 use Rattle.law.specs.declared.tick.Tick.{Tick}
-use Rattle.law.specs.Buses.{BusModel, Holds, tick_at}
+use Rattle.law.specs.Buses.{BusModel, Holds, Answered, tick_at}
 use Rattle.law.specs.Runs.{tolds}
 use Rattle.exchange.specs.Parts.{bus_model}
 use Rattle.workload.specs.Works.{counted, readied, Worked}
 use Rattle.workload.proofs.counting.count_outcomes.Goals as goal
 
 one_more : (hs : List HostBehaviour) (ds : List Behaviour) (masters n : ℕ) (u w x v : BusModel hs ds) (before count : ℕ) (t : Tick) (h : Holds ds) →
-    Worked hs ds masters n u before w → x ≡ readied hs ds masters w → (t, v) ≡ tick_at hs ds x h → count ≡ counted t.event before (tolds t.marks) →
+    Worked hs ds masters n u before w → x ≡ readied hs ds masters w → Answered hs ds x h → (t, v) ≡ tick_at hs ds x h → count ≡ counted t.event before (tolds t.marks) →
     Worked hs ds masters (n + 1) u count v
-one_more hs ds masters n u w x v before count t h so is_ready ticks counts = rw add-one
-    (before, w, h, so, ap (λ k. (k, v)) counts ∙ ap (λ a. (counted a.0.event before (tolds a.0.marks), a.1)) (ticks ∙ ap (λ y. tick_at hs ds y h) is_ready))
+one_more hs ds masters n u w x v before count t h so is_ready may ticks counts = rw add-one
+    (before, w, h, so, subst (λ y. Answered hs ds y h) is_ready may, ap (λ k. (k, v)) counts ∙ ap (λ a. (counted a.0.event before (tolds a.0.marks), a.1)) (ticks ∙ ap (λ y. tick_at hs ds y h) is_ready))
 
 pub loop-made-preserved : goal.loop-made-preserved
 loop-made-preserved g c =
     let hs = g.M.Masters.hosts in
     let ds = g.P.Ports.devices in
     one_more hs ds c.args.masters c.loop-made._made (bus_model c.args.bus.now) (bus_model c.loop-made.bus) _ _ _ _ _ c.tick.ensures.answered.0
-    c.loop-made.invariant c.ready.ensures c.tick.ensures.answered.2 c.counted-count.ensures
+    c.loop-made.invariant c.ready.ensures c.tick.ensures.answered.1 c.tick.ensures.answered.2 c.counted-count.ensures
