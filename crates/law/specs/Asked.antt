@@ -111,7 +111,7 @@ handed (finish ∷ ss) = handed ss
 abbrev pub called_before : TransferModel → ℕ → ℕ → ℕ
 called_before t k a = cond (nat_lt 0 k && answers_to t.first.address a) 1 0
 
--- the bytes that each port's device handed over where it was called for the time n, counted from 0, at address a
+-- the bytes that each port's device handed over in its call n, counted from 0, at address a
 abbrev pub handed_over : ℕ → ℕ → List ℕ → List (List Step) → List (List ℕ)
 handed_over a n [] rs = []
 handed_over a n (o ∷ os) [] = []
@@ -143,7 +143,7 @@ module _ (hs : List HostBehaviour) (ds : List Behaviour) where
   abbrev pub StillIn : Use hs ds → ℕ → TransferModel → Type 0
   StillIn x i t = Contends x i t × ((slice_index_or x.watch.marked i false ≡ false) ⊎ ((j : ℕ) (u : TransferModel) → Contends x j u → j ≡ i))
 
-  -- at the next fall a contender hears A for byte y of leg k, which writes the bytes xs to address a
+  -- in the next tick, a fall, a contender hears A for byte y of leg k, which writes the bytes xs to address a
   pub record HearsA (x : Use hs ds) (t : TransferModel) (k a : ℕ) (xs : List ℕ) (y : ℕ) : Type 0 where
     pub turn : x.book.turn ≡ true
     pub fall : event_at hs ds x.bus ≡ Fall

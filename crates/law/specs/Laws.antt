@@ -1,5 +1,5 @@
 -- The law over every use of a bus, in the words of turns, strings and the turn book. Assumes nothing.
-use Rattle.std.specs.Prelude.{◌≡◌, ℕ, zero, suc, ◌+◌, ◌<◌, ◌≤◌, Bool, true, false, cond, not, ◌||◌, ◌↔◌, List, [], ◌∷◌, ◌++◌, map, replicate, length, get_or, is_some, is_ok, Some, None, Ok, Option, Result, nat_lt, slice_index_or}
+use Rattle.std.specs.Prelude.{◌≡◌, ℕ, zero, suc, ◌+◌, ◌<◌, ◌≤◌, Bool, true, false, cond, not, ◌||◌, ◌↔◌, List, [], ◌∷◌, ◌++◌, map, replicate, length, is_some, is_ok, Some, None, Ok, Option, Result, nat_lt, slice_index_or}
 use Rattle.std.specs.List.{fold, count_by}
 use Rattle.device.specs.Behaviours.{Behaviour}
 use Rattle.device.specs.Steps.{Step}
@@ -19,8 +19,9 @@ use Rattle.law.specs.Runs.{how_many, is_told, RunModel, run_at}
 use Rattle.law.specs.Strings.{Letter, zero as low, stop, restart, bit_letter, rank, first_or_same}
 use Rattle.wire.specs.Wires.{no_pulls, event, signal, latched, counted}
 
--- what a watcher of the ticks notes of the open turn: the falls so far, whether the last of its rises and falls is a
--- rise, who was marked lost, and the letters spelled by the bits that counted, the repeated starts and the stop
+-- what a watcher of the ticks notes of the open turn: the falls so far, whether the last of its rises and falls is a rise
+-- and no stop has come since, who was marked lost, and the letters spelled by the bits that counted, the repeated starts
+-- and the stop
 pub record Watch : Type 0 where
   pub falls : ℕ
   pub risen : Bool
@@ -192,8 +193,8 @@ module _ (hs : List HostBehaviour) (ds : List Behaviour) where
   pub record Loses (x : Use) (i : ℕ) : Type 0 where
     pub turn : x.book.turn ≡ true
     pub own : Carried ds
-    pub contends : get_or (contests hs ds x.book) i None ≡ Some own
-    pub before : get_or x.watch.marked i false ≡ false
+    pub contends : slice_index_or (contests hs ds x.book) i None ≡ Some own
+    pub before : slice_index_or x.watch.marked i false ≡ false
     pub best : Carried ds
     pub leads : least ds (contests hs ds x.book) ≡ Some best
     -- its string first differs from the least in the symbol that is shown, which has risen
@@ -211,8 +212,8 @@ module _ (hs : List HostBehaviour) (ds : List Behaviour) where
   -- what holds of the next tick
   pub record TickLaw (x : Use) : Type 0 where
     pub tells : told_at hs ds x.bus ≡ book_tells hs ds x.book (event_at x.bus)
-    -- it shows the levels and the event of which this law speaks, and the marks, over those of masters that there are not;
-    -- a mark tells of an outcome exactly where one is told
+    -- it shows the levels, the event and the marks of which this law speaks; a number without a master has the mark Quiet.
+    -- A mark tells of an outcome exactly where one is told
     pub shows : (a : Holds ds) → (tick_at hs ds x.bus a).0 ≡ record { levels = levels_at hs ds x.bus; event = event_at x.bus; marks = over (marks_of x.bus) (replicate 8 Quiet) }
     pub marks : map is_told (marks_of x.bus) ≡ map is_some (told_at hs ds x.bus)
     pub loses : (i : ℕ) → slice_index_or (marks_of x.bus) i Quiet ≡ Lost → Loses x i
@@ -260,7 +261,7 @@ module _ (hs : List HostBehaviour) (ds : List Behaviour) where
         ((calls x (runs n a)).told ≡ x.told + r.outcomes) × (ticks_of_call x (runs n a) ≡ r.ticks)
     -- and leaves the bus of this use, also where it is refused
     pub run_leaves : (n : ℕ) (a : ℕ → Holds ds) → (run_at hs ds x.bus n a).1 ≡ (calls x (runs n a)).bus
-    -- a run is its ticks, so that the law holds between any two of them, and what is said of many ticks may begin and end there
+    -- calls may be made tick by tick, with the same use after as many ticks, so that the law holds within a run too
     pub runs_are_ticks : (cs : List Call) → (used x cs ≡ used x (in_ticks x cs)) × (ticks_of x cs ≡ ticks_of x (in_ticks x cs))
     -- from a point with a master armed so many ticks tell an outcome, whatever calls they come from
     pub lively : any_true (armed_now x) ≡ true → (cs : List Call) → most_ticks_of_turn ≤ ticks_of x cs → x.told < (used x cs).told
