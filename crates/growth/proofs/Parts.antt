@@ -1,32 +1,21 @@
 -- Masters, ports and sizes put together from what the code makes.
 use Rattle.std.proofs.Common.{◌≡◌, ℕ, suc, true, false, List, None, Some, Ok, Option, Result, sym, ap, ◌∙◌, subst}
-use Rattle.transfer.specs.declared.draft.Transfer.{Transfer}
 use Rattle.transfer.specs.declared.refusal.Refusal.{Refusal}
-use Rattle.transfer.specs.Drafts.{transfer_model}
 use Rattle.device.specs.RegisterFiles.{register_file}
 use Rattle.device.specs.declared.register_file.RegisterFile.{RegisterFile}
 use Rattle.device.specs.contracts.register_file.steps.RegisterFileDevice.TheImpl.{ghosts}
 use Rattle.host.specs.Behaviours.{HostBehaviour}
 use Rattle.host.specs.declared.poll_host.PollHost.{PollHost}
 use Rattle.host.specs.contracts.poll_host.PollHostHost.TheImpl.{ghosts as poll_ghosts}
-use Rattle.host.specs.PollHosts.{Polled, poll_host}
+use Rattle.host.specs.PollHosts.{poll_host}
 use Rattle.law.specs.Banks.{Bank}
 use Rattle.law.specs.Buses.{BusModel, made}
-use Rattle.master.specs.Masters.{new_master}
-use Rattle.master.specs.Scripts.{transfers}
 use Rattle.master.specs.declared.master.Master.{Master}
 use Rattle.master.specs.Serving.{Served, served}
 use Rattle.port.specs.declared.port.Port.{Port}
 use Rattle.port.specs.Ports.{PortModel, port_model}
-use Rattle.workload.specs.Works.{register_write, Worked}
-use Rattle.parts.proofs.Made.{ok_same}
-use Rattle.growth.specs.Sizes.{is_masters, is_ports, hosts, devices, Writes, WritesQuick, WritesSlow, AtOdds, file_at, files, MeasuredWith, Measured}
-
-pub writes : (x : Served poll_host) (t : Transfer) (m : Polled) (low high address byte : ℕ) →
-    x ≡ record { master = new_master transfers low high; meaning = m } → transfer_model t ≡ register_write address byte → address ≡ 80 →
-    ◌≡◌ {A = Result Polled ℕ} (Ok m) (Ok (record { transfer = t; mask = 255; met = false; last = None })) → Writes low high byte x
-writes x t m low high address byte e sends at_80 made =
-    (t, sends ∙ ap (λ a. register_write a byte) at_80, e ∙ ap (λ m. record { master = new_master transfers low high; meaning = m }) (ok_same made))
+use Rattle.workload.specs.Works.{Worked}
+use Rattle.growth.specs.Sizes.{is_masters, is_ports, hosts, devices, WritesQuick, WritesSlow, AtOdds, file_at, files, MeasuredWith, Measured}
 
 -- four files in front of those after them
 pub four_files : (address n : ℕ) (p q r s : PortModel register_file) (rest : Bank PortModel (devices n)) →

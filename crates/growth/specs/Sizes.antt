@@ -1,19 +1,15 @@
 -- The buses that are measured: their sizes, and their parts before a master is armed. Assumes nothing.
 use Rattle.std.specs.Prelude.{◌≡◌, ℕ, zero, suc, Bool, true, false, ◌||◌, List, replicate, None, Some, Ok, Option, Result, ◌==◌}
-use Rattle.transfer.specs.declared.draft.Transfer.{Transfer}
 use Rattle.transfer.specs.declared.refusal.Refusal.{Refusal}
-use Rattle.transfer.specs.Drafts.{transfer_model}
 use Rattle.device.specs.Behaviours.{Behaviour}
 use Rattle.device.specs.RegisterFiles.{register_file, new_registers}
 use Rattle.host.specs.Behaviours.{HostBehaviour}
 use Rattle.host.specs.PollHosts.{poll_host}
 use Rattle.law.specs.Banks.{Bank}
 use Rattle.law.specs.Buses.{BusModel, made}
-use Rattle.master.specs.Masters.{new_master}
-use Rattle.master.specs.Scripts.{transfers}
 use Rattle.master.specs.Serving.{Served}
 use Rattle.port.specs.Ports.{PortModel, new_port}
-use Rattle.workload.specs.Works.{register_write, Worked}
+use Rattle.workload.specs.Works.{WritesForEver, Worked}
 
 abbrev pub is_masters : ℕ → Bool
 is_masters n = n == 1 || n == 2 || n == 4 || n == 8
@@ -28,16 +24,12 @@ hosts n = replicate n poll_host
 abbrev pub devices : ℕ → List Behaviour
 devices n = replicate n register_file
 
--- a new master at this clock, for ever with a write of 3 and the byte to the register file at 80
-abbrev pub Writes : ℕ → ℕ → ℕ → Served poll_host → Type 0
-Writes low high byte x = (t : Transfer) × (transfer_model t ≡ register_write 80 byte) ×
-    (x ≡ record { master = new_master transfers low high; meaning = record { transfer = t; mask = 255; met = false; last = None } })
-
+-- masters that write to the first register file
 abbrev pub WritesQuick : Served poll_host → Type 0
-WritesQuick x = Writes 1 1 18 x
+WritesQuick x = WritesForEver 1 1 80 18 x
 
 abbrev pub WritesSlow : Served poll_host → Type 0
-WritesSlow x = Writes 2 1 16 x
+WritesSlow x = WritesForEver 2 1 80 16 x
 
 -- by turns a quick and a slow one
 abbrev pub AtOdds : Bool → (n : ℕ) → Bank Served (hosts n) → Type 0

@@ -1,8 +1,9 @@
 // Banks of each size. A bank is one part and the rest, so each size is a type of its own.
 ghost use Rattle.std.specs.Prelude.{◌≡◌, ◌+◌, ◌*◌, ◌≤◌, IsOkAnd};
-ghost use Rattle.growth.specs.Sizes.{Writes, WritesQuick, WritesSlow, file_at};
+ghost use Rattle.growth.specs.Sizes.{WritesQuick, WritesSlow, file_at};
 ghost use Rattle.master.specs.Serving.{served};
 ghost use Rattle.port.specs.Ports.{port_model};
+ghost use Rattle.workload.specs.Works.{WritesForEver};
 
 use device::{Device, RegisterFile};
 use host::{Host, PollHost};
@@ -25,7 +26,7 @@ pub type Four<B> = (
 pub const FIRST: u32 = 0x50;
 
 fn master(clock: ClockPair, byte: u8) -> Result<Master<PollHost>, Refusal>
-    ensures { IsOkAnd result (λ m. Writes clock.low clock.high byte (served ⟦<PollHost as Host>⟧ m)) }
+    ensures { IsOkAnd result (λ m. WritesForEver clock.low clock.high 80 byte (served ⟦<PollHost as Host>⟧ m)) }
 {
     Ok(Master::new(clock, writer(Address::new(FIRST)?, byte)?))
 }
@@ -43,9 +44,7 @@ fn slow() -> Result<Master<PollHost>, Refusal>
 }
 
 pub fn file(address: u32) -> Result<Port<RegisterFile>, Refusal>
-    requires least { 8 ≤ address }
-    requires most { address ≤ 119 }
-    ensures { IsOkAnd result (λ p. port_model ⟦<RegisterFile as Device>⟧ p ≡ file_at address) }
+    ensures { 8 ≤ address → address ≤ 119 → IsOkAnd result (λ p. port_model ⟦<RegisterFile as Device>⟧ p ≡ file_at address) }
 {
     Ok(Port::new(Address::new(address)?, RegisterFile::new()))
 }
@@ -59,8 +58,7 @@ pub fn two<B: Drop>(rest: B) -> Result<Two<B>, Refusal>
 
 // Four files, at the addresses of this block of four; a bus has at most 16 ports, so there are four blocks.
 pub fn four<B: Drop>(block: u8, rest: B) -> Result<Four<B>, Refusal>
-    requires { block ≤ 3 }
-    ensures { IsOkAnd result (λ b. (port_model ⟦<RegisterFile as Device>⟧ b.0 ≡ file_at (80 + 4 * block)) × (port_model ⟦<RegisterFile as Device>⟧ b.1.0 ≡ file_at (81 + 4 * block)) × (port_model ⟦<RegisterFile as Device>⟧ b.1.1.0 ≡ file_at (82 + 4 * block)) × (port_model ⟦<RegisterFile as Device>⟧ b.1.1.1.0 ≡ file_at (83 + 4 * block)) × (b.1.1.1.1 ≡ rest)) }
+    ensures { block ≤ 3 → IsOkAnd result (λ b. (port_model ⟦<RegisterFile as Device>⟧ b.0 ≡ file_at (80 + 4 * block)) × (port_model ⟦<RegisterFile as Device>⟧ b.1.0 ≡ file_at (81 + 4 * block)) × (port_model ⟦<RegisterFile as Device>⟧ b.1.1.0 ≡ file_at (82 + 4 * block)) × (port_model ⟦<RegisterFile as Device>⟧ b.1.1.1.0 ≡ file_at (83 + 4 * block)) × (b.1.1.1.1 ≡ rest)) }
 {
     let address = FIRST + 4 * u32::from(block);
     let first = file(address)?;

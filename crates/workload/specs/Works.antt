@@ -1,11 +1,16 @@
 -- Ticks in which masters are armed again whenever the bus is at rest, and the outcomes told in them. Assumes nothing.
-use Rattle.std.specs.Prelude.{◌≡◌, ℕ, zero, suc, ◌+◌, ◌-◌, ◌^◌, min, cond, List, [], ◌∷◌, None}
-use Rattle.transfer.specs.Drafts.{TransferModel}
+use Rattle.std.specs.Prelude.{◌≡◌, ℕ, zero, suc, ◌+◌, ◌-◌, ◌^◌, false, min, cond, List, [], ◌∷◌, None}
+use Rattle.transfer.specs.declared.draft.Transfer.{Transfer}
+use Rattle.transfer.specs.Drafts.{TransferModel, transfer_model}
 use Rattle.transfer.specs.Legs.{writes}
 use Rattle.device.specs.Behaviours.{Behaviour}
 use Rattle.host.specs.Behaviours.{HostBehaviour}
+use Rattle.host.specs.PollHosts.{poll_host}
 use Rattle.law.specs.Buses.{BusModel, Holds, Answered, tick_at, is_at_rest}
 use Rattle.law.specs.Runs.{tolds}
+use Rattle.master.specs.Masters.{new_master}
+use Rattle.master.specs.Scripts.{transfers}
+use Rattle.master.specs.Serving.{Served}
 use Rattle.parts.specs.Arms.{all_armed}
 use Rattle.wire.specs.declared.wire.Event.{Event}
 use Rattle.wire.specs.declared.wire.Event.TheVariants.{Rise, Fall, Start, Stop, SteadyHigh, SteadyLow}
@@ -13,6 +18,11 @@ use Rattle.wire.specs.declared.wire.Event.TheVariants.{Rise, Fall, Start, Stop, 
 -- a write of 3 and the byte
 abbrev pub register_write : ℕ → ℕ → TransferModel
 register_write address byte = record { first = record { address = address; body = writes (3 ∷ byte ∷ []) }; second = None }
+
+-- a new master at this clock, for ever with such a write
+abbrev pub WritesForEver : ℕ → ℕ → ℕ → ℕ → Served poll_host → Type 0
+WritesForEver low high address byte x = (t : Transfer) × (transfer_model t ≡ register_write address byte) ×
+    (x ≡ record { master = new_master transfers low high; meaning = record { transfer = t; mask = 255; met = false; last = None } })
 
 -- outcomes are counted at stops; the count stays at the highest number of 64 bits
 abbrev pub counted : Event → ℕ → ℕ → ℕ

@@ -14,6 +14,6 @@ returns c =
     let probe = at (λ n. one_write n []) _ _ _ _ (unwrapped transfer_model _ _ _ c.write-2.ensures c.unwrap-probe.ensures) at_34 refl in (
       _,
       (c.unwrap-write.result, c.unwrap-probe.result, write, probe, refl),
-      serves list_host _ _ _ _ _ c.new-4.ensures (ok_same (unwrapped (λ k. (k.low, k.high)) _ _ _ c.new.ensures c.unwrap-clock.ensures))
+      serves list_host _ _ _ _ _ c.new-4.ensures.made (ok_same (unwrapped (λ k. (k.low, k.high)) _ _ _ c.new.ensures c.unwrap-clock.ensures))
           (ok_same (unwrapped listed _ _ _ c.list_of.ensures c.unwrap-3.ensures)),
     )
