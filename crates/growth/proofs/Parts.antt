@@ -1,5 +1,5 @@
 -- Masters, ports and sizes put together from what the code makes.
-use Rattle.std.proofs.Common.{◌≡◌, ℕ, suc, true, false, List, None, Some, Ok, Option, Result, sym, ap, ◌∙◌, subst}
+use Rattle.std.proofs.Common.{◌≡◌, ℕ, suc, true, List, Some, Ok, Option, Result, sym, ap, ◌∙◌, subst}
 use Rattle.transfer.specs.declared.refusal.Refusal.{Refusal}
 use Rattle.device.specs.RegisterFiles.{register_file}
 use Rattle.device.specs.declared.register_file.RegisterFile.{RegisterFile}
@@ -7,7 +7,6 @@ use Rattle.device.specs.contracts.register_file.steps.RegisterFileDevice.TheImpl
 use Rattle.host.specs.Behaviours.{HostBehaviour}
 use Rattle.host.specs.declared.poll_host.PollHost.{PollHost}
 use Rattle.host.specs.contracts.poll_host.PollHostHost.TheImpl.{ghosts as poll_ghosts}
-use Rattle.host.specs.PollHosts.{poll_host}
 use Rattle.law.specs.Banks.{Bank}
 use Rattle.law.specs.Buses.{BusModel, made}
 use Rattle.master.specs.declared.master.Master.{Master}

@@ -27,6 +27,6 @@ returns c =
     let at_81 = ok_same c.in_ok-events.ensures in (
       t,
       read_is _ _ c.in_ok-read.ensures at_81,
-      queues_are _ _ _ _ _ _ _ (record { rest = t ∷ []; last = None }) _ _ c.new-3.ensures.made c.new-reader.ensures c.new-first.ensures c.new-second.ensures
+      queues_are _ _ _ _ _ _ _ (record { rest = t ∷ []; last = None }) _ _ c.new-3.ensures.made c.new-reader.ensures.made c.new-first.ensures.made c.new-second.ensures.made
           at_81 (ok_same c.in_ok-new.ensures) (ok_same c.in_ok-list_of.ensures) (ok_same c.in_ok-queue_of.ensures) (ok_same c.in_ok-queue_of-2.ensures),
     )
