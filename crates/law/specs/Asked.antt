@@ -1,5 +1,5 @@
 -- What the ports asked of their devices in a turn, and what that has to do with strings and outcomes. Assumes nothing.
-use Rattle.std.specs.Prelude.{◌≡◌, ℕ, zero, suc, ◌+◌, ◌*◌, ◌<◌, true, false, cond, ◌&&◌, ◌⊎◌, List, [], ◌∷◌, ◌++◌, map, length, take as first, is_some, Some, None, Option, nat_lt, slice_get, slice_index, slice_index_or}
+use Rattle.std.specs.Prelude.{◌≡◌, ℕ, zero, suc, ◌+◌, ◌*◌, ◌<◌, true, false, cond, ◌&&◌, ◌⊎◌, ◌≢◌, List, [], ◌∷◌, ◌++◌, map, length, take as first, is_some, Some, None, Option, nat_lt, slice_get, slice_index, slice_index_or}
 use Rattle.std.specs.Option.{option_to_list}
 use Rattle.transfer.specs.declared.leg.Direction.TheVariants.{Write}
 use Rattle.transfer.specs.declared.outcome.OutcomeKind.TheVariants.{Done}
@@ -18,7 +18,7 @@ use Rattle.law.specs.Buses.{told_at}
 use Rattle.law.specs.Carrying.{Placed, joined, carried}
 use Rattle.law.specs.Facts.{write_leg, read_leg}
 use Rattle.law.specs.Strings.{Letter}
-use Rattle.law.specs.Laws.{Call, Use, event_at, watched, asked_then, beginning, used}
+use Rattle.law.specs.Laws.{Call, Use, event_at, watched, asks_at, nothing_asked, asked_then, beginning, used}
 
 -- a device's meaning, and the steps that were asked of it
 pub record Noted (b : Behaviour) : Type 0 where
@@ -122,6 +122,11 @@ abbrev pub all_at : ℕ → List (List ℕ) → List ℕ
 all_at y [] = []
 all_at y (xs ∷ xss) = option_to_list (slice_get xs y) ++ all_at y xss
 
+-- some bytes were handed over, and this one has the 1 bits that all of them have
+pub record JoinedFrom (xs : List ℕ) (x : ℕ) : Type 0 where
+  pub some : xs ≢ []
+  pub byte : x ≡ joined xs
+
 abbrev pub body_reads : BodyModel → ℕ
 body_reads (writes xs) = 0
 body_reads (reads n) = n
@@ -159,15 +164,17 @@ module _ (hs : List HostBehaviour) (ds : List Behaviour) where
     -- and put the bytes up to this one, and the device said yes each time
     pub reached : (i : ℕ) (t : TransferModel) → StillIn x i t → (k a : ℕ) (xs : List ℕ) (y : ℕ) → HearsA x t k a xs y →
         SomeEndsWith (addresses x) (asked_then hs ds x) a (written_so (first (suc y) xs))
-    -- a byte that a done outcome reports has the 1 bits that all had who handed one over for it
+    -- for a byte that a done outcome reports somebody handed one over, and it has the 1 bits that all had who did
     pub reported : (i : ℕ) (t : TransferModel) (o : OutcomeModel) → Contends x i t → slice_index_or (told_at hs ds x.bus) i None ≡ Some o → o.kind ≡ Done →
         (k a n : ℕ) → leg_of t k ≡ Some (read_leg a n) → (y : ℕ) → y < n →
-        slice_index o.bytes (read_before t k + y) ≡ joined (all_at y (handed_over a (called_before t k a) (addresses x) (asked_then hs ds x)))
+        JoinedFrom (all_at y (handed_over a (called_before t k a) (addresses x) (asked_then hs ds x))) (slice_index o.bytes (read_before t k + y))
     -- so it is the byte of the one device that did, if one alone did
-    pub alone : (x : ℕ) → x < 256 → joined (x ∷ []) ≡ x
+    pub alone : (byte : ℕ) → byte < 256 → joined (byte ∷ []) ≡ byte
     -- at the stop of a turn the steps asked in it are those of a transfer that is told, carried alone: once, however many are told
     pub once : event_at hs ds x.bus ≡ Stop → x.book.turn ≡ true → (i : ℕ) (t : TransferModel) → Contends x i t →
         is_some (slice_index_or (told_at hs ds x.bus) i None) ≡ true → asked_then hs ds x ≡ steps_alone ds t x.book.devices
+    -- and where no turn is open nothing is asked
+    pub resting : x.book.turn ≡ false → asks_at hs ds x.bus ≡ nothing_asked hs ds x.bus
 
   -- at every point of every use of a bus from its making
   abbrev pub EveryAsked : Bank Served hs → Bank PortModel ds → Type 0
