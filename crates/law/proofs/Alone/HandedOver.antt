@@ -28,7 +28,7 @@ joined_alone x h = mask x h
 
 -- of equals
 pub joined_as : (xs ys : List ℕ) (x y : ℕ) → xs ≡ ys → x ≡ y → JoinedFrom xs x → JoinedFrom ys y
-joined_as xs ys x y e f h = record { some = λ n. h.some (e ∙ n); byte = sym f ∙ (h.byte ∙ ap joined e) }
+joined_as xs ys x y e f h = record { any = λ n. h.any (e ∙ n); byte = sym f ∙ (h.byte ∙ ap joined e) }
 
 -- what each device hands over in a read of n bytes
 abbrev hands : ℕ → (ds : List Behaviour) → Bank Taking (all_recorded ds) → List (List ℕ)
@@ -79,7 +79,7 @@ some_hands n y (b ∷ ds) e h i k = elim (or_cases e.0.inside (somebody (all_rec
 ]
 
 read_hands : (n y : ℕ) (ds : List Behaviour) (e : Bank Taking (all_recorded ds)) → y < n → somebody (all_recorded ds) e ≡ true → JoinedFrom (all_at y (hands n ds e)) (get_or (read (all_recorded ds) n e).bytes y 0)
-read_hands n y ds e h i = record { some = some_hands n y ds e h i; byte = read_gives n y ds e h }
+read_hands n y ds e h i = record { any = some_hands n y ds e h i; byte = read_gives n y ds e h }
 
 -- a call stays where it is, whatever is called later
 one_handed : (v : Bool) (hs : List ℕ) (ks ls rs : List Step) (c : ℕ) (cs : List (List Step)) → Since v hs ks ls → calls_of rs ≡ calls_of ls ++ cs → (v ≡ true → length (calls_of ks) ≡ c) →
