@@ -1,4 +1,4 @@
--- What a device means: a meaning, and four steps of which answer and next meaning depend on the meaning and the input alone. Assumes nothing.
+-- What a device means: a meaning, four steps of which answer and next meaning depend on the meaning and the input alone, and what hold may answer. Assumes nothing.
 use Rattle.std.specs.Prelude.{ℕ, Bool}
 use Rattle.transfer.specs.declared.leg.Direction.{Direction}
 

@@ -26,7 +26,8 @@ pub struct Busy<D> {
 
 impl<D: Device> Busy<D> {
     pub fn new(number: u8, device: D) -> Busy<D>
-        ensures { busied D.Device.behaviour D.Device.means result ≡ record { number = number; left = 0; inside = false; wrote = false; below = D.Device.means device } }
+        ensures made { busied D.Device.behaviour D.Device.means result ≡ record { number = number; left = 0; inside = false; wrote = false; below = D.Device.means device } }
+        ensures same { result.device ≡ device }
     {
         Busy {
             number,

@@ -32,7 +32,7 @@ pub trait Device {
         ensures means { means self.new ≡ behaviour.finish (means self.old) }
         ensures went { went self.old finish self.new };
 
-    // For how many ticks to hold the clock low: an answer that its meaning leaves open. The meaning stays.
+    // For how many ticks to hold the clock low: one of the answers that its meaning allows. The meaning stays.
     fn hold(&mut self) -> u8
         ensures answer { behaviour.holds (means self.old) result }
         ensures same { means self.new ≡ means self.old }

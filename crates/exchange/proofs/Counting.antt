@@ -13,6 +13,7 @@ use Rattle.law.specs.Buses.{BusModel, Holds, Answered, no_holds, over, tick_at, 
 use Rattle.master.specs.Serving.{Served, mark_of, outcome_told, served_mark, served_told}
 use Rattle.master.specs.Masters.{VerdictModel, quiet, lost, told, master_step}
 use Rattle.master.specs.Scripts.{transfers}
+use Rattle.exchange.specs.Calls.{TickAsked, GoesOnAsked, RunAsked}
 use Rattle.law.specs.Runs.{how_many, is_told, tolds, Running, setting_out, ticked, goes_on, GoesOnAnswered, RunAnswered, load, run_at}
 
 told_marks : (v : VerdictModel transfers) (ms : List Mark) (os : List (Option OutcomeModel)) → tolds ms ≡ how_many os → tolds (mark_of v ∷ ms) ≡ how_many (outcome_told v ∷ os)
@@ -29,21 +30,25 @@ tolds_are_all (b ∷ hs) s p zero h = absurd (omega arith)
 tolds_are_all (b ∷ hs) s p (suc k) h =
     told_marks (master_step transfers p.0.master s).1 (over (listed (λ h. served_mark h s) hs p.1) (replicate k Quiet)) (listed (λ h. served_told h s) hs p.1) (tolds_are_all hs s p.1 k (omega arith))
 
-module _ (hs : List HostBehaviour) (ds : List Behaviour) where
-  -- from u the run r is under way, whatever is answered after the answers a so far
-  pub record Reached (u : BusModel hs ds) (r : Running hs ds) : Type 0 where
+module _ (hs : List HostBehaviour) (ds : List Behaviour) {P : Type 0} (asked : P → Signal → Holds ds → P → Type 0) where
+  -- from u with the ports p the run r is under way with the ports q, whatever is answered after the answers so far
+  pub record Reached (u : BusModel hs ds) (p : P) (r : Running hs ds) (q : P) : Type 0 where
     pub answers : ℕ → Holds ds
     pub on : (b : ℕ → Holds ds) → ((k : ℕ) → k < r.ticks → b k ≡ answers k) →
         (m : ℕ) → goes_on hs ds (r.ticks + m) b (setting_out hs ds u) ≡ goes_on hs ds m b r
     -- and so far they are ones that the devices may give
     pub may : (b : ℕ → Holds ds) → ((k : ℕ) → k < r.ticks → b k ≡ answers k) →
         (m : ℕ) → GoesOnAnswered hs ds m b r → GoesOnAnswered hs ds (r.ticks + m) b (setting_out hs ds u)
+    -- and the calls so far lead from p to q
+    pub calls : (b : ℕ → Holds ds) → ((k : ℕ) → k < r.ticks → b k ≡ answers k) →
+        (m : ℕ) (z : P) → GoesOnAsked hs ds asked m b r q z → GoesOnAsked hs ds asked (r.ticks + m) b (setting_out hs ds u) p z
 
-  pub reached_none : (u : BusModel hs ds) → Reached u (setting_out hs ds u)
-  reached_none u = record {
+  pub reached_none : (u : BusModel hs ds) (p : P) → Reached u p (setting_out hs ds u) p
+  reached_none u p = record {
     answers = λ k. no_holds ds;
     on = λ b e m. ap (λ n. goes_on hs ds n b (setting_out hs ds u)) (zero-add m);
     may = λ b e m h. subst (λ n. GoesOnAnswered hs ds n b (setting_out hs ds u)) (sym (zero-add m)) h;
+    calls = λ b e m z h. subst (λ n. GoesOnAsked hs ds asked n b (setting_out hs ds u) p z) (sym (zero-add m)) h;
   }
 
   then : (a : ℕ → Holds ds) → ℕ → Holds ds → ℕ → Holds ds
@@ -57,9 +62,9 @@ module _ (hs : List HostBehaviour) (ds : List Behaviour) where
   unfolding then
   then_at a t h = grind arith
 
-  ticked_on : (u : BusModel hs ds) (r : Running hs ds) (h : Holds ds) → is_at_rest hs ds r.bus ≡ false → Answered hs ds r.bus h →
-      Reached u r → Reached u (ticked hs ds r h)
-  ticked_on u r h up may so =
+  ticked_on : (u : BusModel hs ds) (p : P) (r : Running hs ds) (q next : P) (h : Holds ds) → is_at_rest hs ds r.bus ≡ false → Answered hs ds r.bus h → TickAsked hs ds asked r.bus h q next →
+      Reached u p r q → Reached u p (ticked hs ds r h) next
+  ticked_on u p r q next h up may called so =
       let before : (b : ℕ → Holds ds) → ((k : ℕ) → k < suc r.ticks → b k ≡ then so.answers r.ticks h k) → (k : ℕ) → k < r.ticks → b k ≡ so.answers k =
       λ b e k lt. e k (omega arith) ∙ then_before so.answers r.ticks h k lt in
       let here : (b : ℕ → Holds ds) → ((k : ℕ) → k < suc r.ticks → b k ≡ then so.answers r.ticks h k) → b r.ticks ≡ h =
@@ -76,17 +81,22 @@ module _ (hs : List HostBehaviour) (ds : List Behaviour) where
             (so.may b (before b e) (suc m)
             (subst (λ x. is_at_rest hs ds r.bus ≡ false → Answered hs ds r.bus x × GoesOnAnswered hs ds m b (ticked hs ds r x)) (sym (here b e))
             (λ up. (may, after))));
+        calls = λ b e m z after.
+            subst (λ n. GoesOnAsked hs ds asked n b (setting_out hs ds u) p z) (sym (n m))
+            (so.calls b (before b e) (suc m) z
+            (subst (λ x. (is_at_rest hs ds r.bus ≡ true → z ≡ q) × (is_at_rest hs ds r.bus ≡ false → (y : P) × TickAsked hs ds asked r.bus x q y × GoesOnAsked hs ds asked m b (ticked hs ds r x) y z)) (sym (here b e))
+            ((λ rest. absurd (let no : true ≡ false = sym rest ∙ up in cc)), (λ up. (next, called, after)))));
       }
 
   -- one tick more, by what the code has of it
-  pub reached_more : (u : BusModel hs ds) (r : Running hs ds) (h : Holds ds) (v : BusModel hs ds) (o y : ℕ) →
+  pub reached_more : (u : BusModel hs ds) (p : P) (r : Running hs ds) (q next : P) (h : Holds ds) (v : BusModel hs ds) (o y : ℕ) →
       false ≡ is_at_rest hs ds r.bus → v ≡ (tick_at hs ds r.bus h).1 → o ≡ how_many (told_at hs ds r.bus) →
-      y ≡ r.busy + cond v.wire.busy 1 0 → Answered hs ds r.bus h → Reached u r →
-      Reached u (record { bus = v; ticks = r.ticks + 1; outcomes = r.outcomes + o; busy = y })
-  reached_more u r h v o y up bus_is outcomes_are busy_is may so =
+      y ≡ r.busy + cond v.wire.busy 1 0 → Answered hs ds r.bus h → TickAsked hs ds asked r.bus h q next → Reached u p r q →
+      Reached u p (record { bus = v; ticks = r.ticks + 1; outcomes = r.outcomes + o; busy = y }) next
+  reached_more u p r q next h v o y up bus_is outcomes_are busy_is may called so =
       let e : ◌≡◌ {A = Running hs ds} (record { bus = v; ticks = r.ticks + 1; outcomes = r.outcomes + o; busy = y }) (ticked hs ds r h) =
       rw (busy_is, outcomes_are, add-one, bus_is) in
-      subst (λ (x : Running hs ds). Reached u x) (sym e) (ticked_on u r h (sym up) may so)
+      subst (λ (x : Running hs ds). Reached u p x next) (sym e) (ticked_on u p r q next h (sym up) may called so)
 
   rests : (r : Running hs ds) (b : ℕ → Holds ds) (m : ℕ) → is_at_rest hs ds r.bus ≡ true → goes_on hs ds m b r ≡ r
   rests r b m h = grind arith
@@ -99,11 +109,15 @@ module _ (hs : List HostBehaviour) (ds : List Behaviour) where
   nothing_more r b zero over = tt
   nothing_more r b (suc m) over = λ up. absurd (elim over [ inl e ↦ cc | inr e ↦ cc ])
 
+  no_call_more : (r : Running hs ds) (b : ℕ → Holds ds) (m : ℕ) (q : P) → (m ≡ 0) ⊎ (true ≡ is_at_rest hs ds r.bus) → GoesOnAsked hs ds asked m b r q q
+  no_call_more r b zero q over = refl
+  no_call_more r b (suc m) q over = ((λ rest. refl), (λ up. absurd (elim over [ inl e ↦ cc | inr e ↦ cc ])))
+
   -- a run is over at rest, or once all its ticks are made
-  pub run_is : (u : BusModel hs ds) (r : Running hs ds) (n l : ℕ) → n ≤ 1000000 → r.ticks ≤ n → l ≡ load r.busy r.ticks →
-      (r.ticks ≡ n) ⊎ (true ≡ is_at_rest hs ds r.bus) → Reached u r →
-      (a : ℕ → Holds ds) × RunAnswered hs ds u n a × ((Ok (record { ticks = r.ticks; outcomes = r.outcomes; load = l }), r.bus) ≡ run_at hs ds u n a)
-  run_is u r n l few most load_is over so =
+  pub run_is : (u : BusModel hs ds) (p : P) (r : Running hs ds) (q : P) (n l : ℕ) → n ≤ 1000000 → r.ticks ≤ n → l ≡ load r.busy r.ticks →
+      (r.ticks ≡ n) ⊎ (true ≡ is_at_rest hs ds r.bus) → Reached u p r q →
+      (a : ℕ → Holds ds) × RunAnswered hs ds u n a × ((Ok (record { ticks = r.ticks; outcomes = r.outcomes; load = l }), r.bus) ≡ run_at hs ds u n a) × RunAsked hs ds asked u n a p q
+  run_is u p r q n l few most load_is over so =
       let parts : n ≡ r.ticks + (n - r.ticks) = omega arith in
       let all : goes_on hs ds n so.answers (setting_out hs ds u) ≡ r =
       ap (λ n. goes_on hs ds n so.answers (setting_out hs ds u)) parts ∙ so.on so.answers (λ k lt. refl) (n - r.ticks) ∙ stops r so.answers n over in
@@ -111,9 +125,14 @@ module _ (hs : List HostBehaviour) (ds : List Behaviour) where
       let may : GoesOnAnswered hs ds n so.answers (setting_out hs ds u) =
       subst (λ n. GoesOnAnswered hs ds n so.answers (setting_out hs ds u)) (sym parts)
       (so.may so.answers (λ k lt. refl) (n - r.ticks) (nothing_more r so.answers (n - r.ticks) left)) in
-      (so.answers, λ e. may, rw (load_is, le-ltb 1000000 n few, all))
+      let calls : GoesOnAsked hs ds asked n so.answers (setting_out hs ds u) p q =
+      subst (λ n. GoesOnAsked hs ds asked n so.answers (setting_out hs ds u) p q) (sym parts)
+      (so.calls so.answers (λ k lt. refl) (n - r.ticks) q (no_call_more r so.answers (n - r.ticks) q left)) in
+      let accepted : ltb 1000000 n ≡ false = le-ltb 1000000 n few in
+      (so.answers, (λ e. may), rw (load_is, accepted, all), ((λ many. absurd (let no : true ≡ false = sym many ∙ accepted in cc)), (λ e. calls)))
 
-  pub refused : (u : BusModel hs ds) (n : ℕ) → 1000000 < n → (a : ℕ → Holds ds) × RunAnswered hs ds u n a × ((Err 8, u) ≡ run_at hs ds u n a)
-  refused u n many =
+  pub refused : (u : BusModel hs ds) (p : P) (n : ℕ) → 1000000 < n → (a : ℕ → Holds ds) × RunAnswered hs ds u n a × ((Err 8, u) ≡ run_at hs ds u n a) × RunAsked hs ds asked u n a p p
+  refused u p n many =
       let e : ltb 1000000 n ≡ true = lt-ltb 1000000 n many in
-      ((λ k. no_holds ds), (λ few. absurd (let f : true ≡ false = sym e ∙ few in cc)), rw e)
+      let never : ltb 1000000 n ≡ false → ⊥ = λ few. (let f : true ≡ false = sym e ∙ few in cc) in
+      ((λ k. no_holds ds), (λ few. absurd (never few)), rw e, ((λ many. refl), (λ few. absurd (never few))))

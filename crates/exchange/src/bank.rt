@@ -43,7 +43,8 @@ pub trait Masters {
         ensures after { stand self.new ≡ each served_new hosts (stand self.old) };
 
     fn arm(&mut self, master: usize) -> Result<(), Refusal>
-        ensures { (answer (λ u. u) result, stand self.new) ≡ arm_nth hosts (stand self.old) master };
+        ensures same { same_hosts self.old self.new }
+        ensures after { (answer (λ u. u) result, stand self.new) ≡ arm_nth hosts (stand self.old) master };
 
     // Steps every master, and writes its mark to its place, as far as there are places.
     fn step(&mut self, signal: Signal, marks: &mut [Mark])
@@ -52,6 +53,9 @@ pub trait Masters {
 
     // a clock pair has counts from 1 to 255
     ghost clocked: { (x : Self) → Clocked hosts (stand x) };
+
+    // a bank that is left alone keeps its hosts
+    ghost own_hosts: { (x : Self) → same_hosts x x };
 }
 
 // A trait apart from `Masters`, though the pulls of a bank and its reset read alike: what they mean of each part differs,
@@ -85,6 +89,8 @@ impl Masters for End {
     ghost stand = { λ _. tt };
 
     ghost same_hosts = { λ _ _. Unit {0} };
+
+    ghost own_hosts = { Prim.search rules };
 
     ghost clocked = { Prim.search rules };
 
@@ -129,6 +135,8 @@ impl<H: Host, B: Masters> Masters for (Master<H>, B) {
     ghost stand = { λ p. (served H.Host p.0, B.Masters.stand p.1) };
 
     ghost same_hosts = { λ p q. SameHost p.0 q.0 × B.Masters.same_hosts p.1 q.1 };
+
+    ghost own_hosts = { Prim.search rules };
 
     ghost clocked = { Prim.search rules };
 

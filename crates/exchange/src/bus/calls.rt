@@ -3,13 +3,13 @@ ghost use Rattle.std.specs.Prelude.{◌≡◌, ◌≤◌, length};
 ghost use Rattle.transfer.specs.Refusals.{answer};
 ghost use Rattle.law.specs.Asked.{EveryAsked};
 ghost use Rattle.law.specs.Banks.{each};
-ghost use Rattle.law.specs.Buses.{made, arm_at, Holds, NeverHold, no_holds, Answered, levels_at, tick_at, is_at_rest};
+ghost use Rattle.law.specs.Buses.{made, arm_at, NeverHold, no_holds, tick_at, is_at_rest};
 ghost use Rattle.law.specs.Facts.{StringLaws, ByteLaws};
 ghost use Rattle.law.specs.Laws.{EveryUse};
+ghost use Rattle.exchange.specs.Calls.{TickedTo};
 ghost use Rattle.exchange.specs.Parts.{bus_model};
 ghost use Rattle.master.specs.Serving.{served_new};
 ghost use Rattle.port.specs.Ports.{port_new};
-ghost use Rattle.wire.specs.Wires.{signal};
 
 use super::Bus;
 use crate::bank::{Masters, Ports};
@@ -29,6 +29,8 @@ impl<M: Masters, P: Ports> Bus<M, P> {
         ensures law { EveryUse M.Masters.hosts P.Ports.devices (M.Masters.stand masters) (P.Ports.stand ports) }
         ensures strings { StringLaws P.Ports.devices P.Ports.devices }
         ensures bytes { ByteLaws P.Ports.devices }
+        ensures hosts { M.Masters.same_hosts masters result.masters }
+        ensures devices { P.Ports.same_devices ports result.ports }
         ensures asked { EveryAsked M.Masters.hosts P.Ports.devices (M.Masters.stand masters) (P.Ports.stand ports) }
     {
         masters.reset();
@@ -42,7 +44,9 @@ impl<M: Masters, P: Ports> Bus<M, P> {
 
     // Arms master number `master`, counted from 0, with what its host wants.
     pub fn arm(&mut self, master: usize) -> Result<(), Refusal>
-        ensures { (answer (λ u. u) result, bus_model self.new) ≡ arm_at _ _ (bus_model self.old) master }
+        ensures armed { (answer (λ u. u) result, bus_model self.new) ≡ arm_at _ _ (bus_model self.old) master }
+        ensures hosts { M.Masters.same_hosts self.old.masters self.new.masters }
+        ensures ports { self.new.ports ≡ self.old.ports }
     {
         self.masters.arm(master)
     }
@@ -50,7 +54,7 @@ impl<M: Masters, P: Ports> Bus<M, P> {
     // One tick, one function of the bus before it and of what the devices answer to hold: that alone is open, as far as
     // the devices leave it open. Where none of them may hold, nothing is.
     pub fn tick(&mut self) -> Tick
-        ensures answered { (h : Holds P.Ports.devices) × Answered _ _ (bus_model self.old) h × ((result, bus_model self.new) ≡ tick_at _ _ (bus_model self.old) h) × P.Ports.asked self.old.ports (signal self.old.wire (levels_at _ _ (bus_model self.old))) h self.new.ports }
+        ensures answered { TickedTo self.old result self.new }
         ensures unheld { NeverHold P.Ports.devices → (result, bus_model self.new) ≡ tick_at _ _ (bus_model self.old) (no_holds P.Ports.devices) }
     {
         let levels = self.masters.pulls().or(self.ports.pulls()).levels();

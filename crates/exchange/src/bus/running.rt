@@ -1,9 +1,11 @@
 // A run: ticks until the bus is at rest.
-ghost use Rattle.std.specs.Prelude.{◌≡◌, ℕ, ◌≤◌, length};
+ghost use Rattle.std.specs.Prelude.{◌≡◌, ◌≤◌};
 ghost use Rattle.transfer.specs.Refusals.{answer};
-ghost use Rattle.law.specs.Buses.{Holds, NeverHold, no_holds, Answered, tick_at, told_at};
+ghost use Rattle.law.specs.declared.tick.Tick.{Tick};
+ghost use Rattle.law.specs.Buses.{NeverHold, no_holds, told_at};
+ghost use Rattle.exchange.specs.Calls.{TickedTo, RanTo};
 ghost use Rattle.exchange.specs.Parts.{bus_model, run_model};
-ghost use Rattle.law.specs.Runs.{how_many, load, RunAnswered, run_at};
+ghost use Rattle.law.specs.Runs.{how_many, load, run_at};
 
 use super::{Bus, Run};
 use crate::bank::{Masters, Ports};
@@ -15,7 +17,7 @@ impl<M: Masters, P: Ports> Bus<M, P> {
     // Ticks until the bus is at rest, `n` times at most. It counts its ticks by hand: a run may end at either, and its
     // answer is these counts.
     pub fn run(&mut self, n: u32) -> Result<Run, Refusal>
-        ensures answered { (a : ℕ → Holds P.Ports.devices) × RunAnswered _ _ (bus_model self.old) n a × ((answer run_model result, bus_model self.new) ≡ run_at _ _ (bus_model self.old) n a) }
+        ensures answered { RanTo self.old n result self.new }
         ensures unheld { NeverHold P.Ports.devices → (answer run_model result, bus_model self.new) ≡ run_at _ _ (bus_model self.old) n (λ _. no_holds P.Ports.devices) }
     {
         if n > MOST_TICKS {
@@ -45,7 +47,7 @@ impl<M: Masters, P: Ports> Bus<M, P> {
     fn outcomes_of_tick(&mut self) -> u32
         ensures few { result ≤ 8 }
         ensures all { result ≡ how_many (told_at _ _ (bus_model self.old)) }
-        ensures after { (h : Holds P.Ports.devices) × Answered _ _ (bus_model self.old) h × (bus_model self.new ≡ (tick_at _ _ (bus_model self.old) h).1) }
+        ensures after { (t : Tick) × TickedTo self.old t self.new }
     {
         self.tick().outcomes()
     }

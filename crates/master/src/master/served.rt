@@ -13,7 +13,8 @@ use wire::{Pulls, Signal};
 
 impl<H: Host> Master<H> {
     pub fn new(clock: ClockPair, host: H) -> Master<H>
-        ensures { served H.Host result ≡ record { master = new_master transfers clock.low clock.high; meaning = H.Host.means host } }
+        ensures made { served H.Host result ≡ record { master = new_master transfers clock.low clock.high; meaning = H.Host.means host } }
+        ensures same { result.host ≡ host }
     {
         Master {
             state: MasterState::new(clock),
@@ -49,7 +50,8 @@ impl<H: Host> Master<H> {
     }
 
     pub fn arm(&mut self) -> Result<(), Refusal>
-        ensures { (answer (λ u. u) result, served H.Host self.new) ≡ served_arm _ (served H.Host self.old) }
+        ensures same { SameHost self.old self.new }
+        ensures after { (answer (λ u. u) result, served H.Host self.new) ≡ served_arm _ (served H.Host self.old) }
     {
         if self.is_armed() {
             return Err(Refusal::ArmedAlready);

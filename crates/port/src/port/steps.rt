@@ -23,7 +23,8 @@ impl Mode {
 
 impl<D: Device> Port<D> {
     pub fn new(address: Address, device: D) -> Port<D>
-        ensures { port_model D.Device result ≡ new_port D.Device.behaviour address.number (D.Device.means device) }
+        ensures made { port_model D.Device result ≡ new_port D.Device.behaviour address.number (D.Device.means device) }
+        ensures same { result.device ≡ device }
     {
         Port {
             address,

@@ -14,5 +14,7 @@ returns g c =
       law = every_use_lawful hs ds (g.M.Masters.stand c.args.masters) (g.P.Ports.stand c.args.ports) (g.met.M.Masters.clocked c.args.masters);
       strings = string_laws ds ds;
       bytes = byte_laws ds;
+      hosts = search rules;
+      devices = search rules;
       asked = every_asked hs ds (g.M.Masters.stand c.args.masters) (g.P.Ports.stand c.args.ports) (g.met.M.Masters.clocked c.args.masters);
     }

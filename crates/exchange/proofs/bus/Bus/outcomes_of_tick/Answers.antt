@@ -16,5 +16,5 @@ returns g c =
       few = c.outcomes.ensures.few;
       all = c.outcomes.ensures.all ∙ ap (λ x. tolds x.0.marks) tick.2
           ∙ tolds_are_all hs (signal u.wire (levels_at hs ds u)) u.masters 8 c.args.self.now.few_masters;
-      after = (tick.0, tick.1, ap (λ x. x.1) tick.2);
+      after = (c.tick.result, tick);
     }

@@ -8,8 +8,8 @@ invariant-loop-ticks g l =
     let hs = g.M.Masters.hosts in
     let ds = g.P.Ports.devices in
     (l.ticks ≤ l.n) × (l.outcomes ≤ 8 * l.ticks) × (l.busy ≤ l.ticks) ×
-    Reached hs ds (bus_model l.initial.self)
-    (record { bus = bus_model l.self; ticks = l.ticks; outcomes = l.outcomes; busy = l.busy })
+    Reached hs ds g.P.Ports.asked (bus_model l.initial.self) l.initial.self.ports
+    (record { bus = bus_model l.self; ticks = l.ticks; outcomes = l.outcomes; busy = l.busy }) l.self.ports
 
 abbrev pub decreases-loop-ticks : goal.decreases-loop-ticks
 decreases-loop-ticks g l = l.n - l.ticks
