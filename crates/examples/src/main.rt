@@ -1,11 +1,11 @@
 // Arbitration by example: two masters at odds, under several clock pairs, and who was told at the first stop.
 #![tactic(auto)]
 
-use fault::Fault;
+use std::io;
 
 mod run;
 mod setup;
 
-fn main(rt: HostRuntime) -> Result<(), Fault> {
-    run::run(&rt)
+fn main(rt: HostRuntime) -> io::Result<()> {
+    run::run(&mut rt.stdout())
 }

@@ -1,77 +1,146 @@
 // Ticks each example to its first stop, and prints who was told there.
+ghost use Rattle.std.specs.Prelude.{◌≡◌, ℕ, ◌+◌, ◌≤◌, ◌++◌, List, length};
+ghost use Rattle.std.specs.List.{flat_map};
+ghost use Rattle.exchange.specs.Parts.{bus_model};
+ghost use Rattle.printing.specs.Outputs.{Puts};
+ghost use Rattle.examples.specs.Runs.{first_stop, told_at, clocks_text, example_line, Examples, Joined};
+
 use crate::setup::{all_clocks, queue_bus};
 use exchange::{End, Event, Mark, Tick};
-use fault::Fault;
 use host::ListHost;
-use listing::Numbers;
-use parts::{Clocks, PairBus, TURN, arm_all, list_of, pair_bus};
-use text::OutcomeText;
+use listing::push_numbers;
+use parts::{Clocks, PairBus, arm_all, list_of, pair_bus, ticks_of_turns};
+use printing::Output;
+use std::io;
+use text::{ArrayString, push_decimal, push_outcome};
 use transfer::{Address, Transfer};
 
 const REGISTERS: u32 = 0x50;
 
+// Room for the longest line of an example, whose name has 20 bytes at most.
+const LINE: usize = 139;
+
+// Room for six examples of four lines, and for the line of the two queues.
+const ALL: usize = 3452;
+
 // The first stop once both masters are armed.
-fn first_stop(bus: &mut PairBus<ListHost>) -> Option<Tick> {
+fn first_stop(bus: &mut PairBus<ListHost>) -> Option<Tick>
+    ensures { result ≡ first_stop (bus_model bus.old) }
+{
     arm_all(bus, 2);
-    (0..TURN)
-        .map(|_| bus.tick())
-        .find(|tick| tick.event == Event::Stop)
-}
-
-// One line for each choice of clocks. Each has a bus of its own, so that no run sees what another left behind.
-fn example(rt: &HostRuntime, name: &str, one: Transfer, other: Transfer) -> Result<(), Fault> {
-    let address = Address::new(REGISTERS)?;
-    for clocks in all_clocks()? {
-        let mut bus = pair_bus(address, clocks, list_of(&[one])?, list_of(&[other])?);
-        let stop = first_stop(&mut bus);
-        let _ = bus.close();
-        let told = Numbers {
-            masters: match stop {
-                Some(stop) => stop.marks,
-                None => [Mark::Quiet; 8],
-            },
-            mark: Mark::Told,
-            before: " ",
-            after: "",
-        };
-        let Clocks { first, second } = clocks;
-        println!(rt;
-            "{name}, clocks {} {} and {} {}: told{told}",
-            first.low(),
-            first.high(),
-            second.low(),
-            second.high()
-        )?;
+    for _made in 0..ticks_of_turns(1) {
+        let tick = bus.tick();
+        if let Event::Stop = tick.event {
+            return Some(tick);
+        }
     }
-    Ok(())
+    None
 }
 
-fn joined_queues(rt: &HostRuntime) -> Result<(), Fault> {
-    let mut bus = queue_bus()?;
+fn push_clocks<const N: usize>(text: &mut ArrayString<N>, clocks: Clocks)
+    requires { length text.old.bytes + 87 ≤ N }
+    ensures text { text.new.bytes ≡ text.old.bytes ++ clocks_text clocks }
+    ensures short { length text.new.bytes ≤ length text.old.bytes + 87 }
+{
+    let Clocks { first, second } = clocks;
+    push_decimal(text, first.low().into());
+    text.push_str(" ");
+    push_decimal(text, first.high().into());
+    text.push_str(" and ");
+    push_decimal(text, second.low().into());
+    text.push_str(" ");
+    push_decimal(text, second.high().into());
+}
+
+fn push_told<const N: usize>(text: &mut ArrayString<N>, stop: Option<Tick>)
+    requires { length text.old.bytes + 16 ≤ N }
+    ensures text { text.new.bytes ≡ text.old.bytes ++ told_at stop }
+    ensures short { length text.new.bytes ≤ length text.old.bytes + 16 }
+{
+    if let Some(stop) = stop {
+        push_numbers(text, &stop.marks, Mark::Told, " ", "");
+    }
+}
+
+// Each has a bus of its own, so that no run sees what another left behind.
+fn example_line(name: &str, one: Transfer, other: Transfer, clocks: Clocks) -> ArrayString<LINE>
+    requires { length name.now ≤ 20 }
+    ensures { result.bytes ≡ example_line name.now one other clocks }
+{
+    let address = Address::new(REGISTERS).unwrap();
+    let hosts = (list_of(&[one]).unwrap(), list_of(&[other]).unwrap());
+    let mut bus = pair_bus(address, clocks, hosts.0, hosts.1);
+    let stop = first_stop(&mut bus);
+    let _ = bus.close();
+    let mut line = ArrayString::new();
+    line.push_str(name);
+    line.push_str(", clocks ");
+    push_clocks(&mut line, clocks);
+    line.push_str(": told");
+    push_told(&mut line, stop);
+    line.push_str("\n");
+    line
+}
+
+// One line for each choice of clocks.
+fn push_example<const N: usize>(
+    text: &mut ArrayString<N>,
+    clocks: &[Clocks; 4],
+    name: &str,
+    one: Transfer,
+    other: Transfer,
+)
+    requires room { length text.old.bytes + 556 ≤ N }
+    requires short_name { length name.now ≤ 20 }
+    ensures text { text.new.bytes ≡ text.old.bytes ++ flat_map (example_line name.now one other) clocks.now }
+    ensures short { length text.new.bytes ≤ length text.old.bytes + 556 }
+{
+    for &choice in clocks {
+        text.push_str(example_line(name, one, other, choice).as_str());
+    }
+}
+
+// What is read of two queues at one address.
+fn push_joined<const N: usize>(text: &mut ArrayString<N>)
+    requires { length text.old.bytes + 116 ≤ N }
+    ensures { (joined : List ℕ) × Joined joined × (text.new.bytes ≡ text.old.bytes ++ joined) }
+{
+    let mut bus = queue_bus();
     arm_all(&mut bus, 1);
-    let ran = bus.run(TURN);
+    let _ = bus.run(ticks_of_turns(1));
     let ((reader, End), _queues) = bus.close();
-    ran?;
     if let Some(outcome) = reader.into_host().last() {
-        println!(rt; "joined queues: {}", OutcomeText(&outcome))?;
+        text.push_str("joined queues: ");
+        push_outcome(text, &outcome);
+        text.push_str("\n");
     }
-    Ok(())
 }
 
-pub fn run(rt: &HostRuntime) -> Result<(), Fault> {
-    let registers = Address::new(REGISTERS)?;
-    let three = Transfer::write(registers, &[0x03])?;
-    let three_and_high = Transfer::write(registers, &[0x03, 0x80])?;
-    let three_and_zero = Transfer::write(registers, &[0x03, 0x00])?;
-    let three_then_read = Transfer::write_then_read(registers, &[0x03], 1)?;
-    let register = Transfer::write(registers, &[0x03, 0x12])?;
-    let three_bytes = Transfer::read(registers, 3)?;
-    let two_bytes = Transfer::read(registers, 2)?;
-    example(rt, "stop over one", three, three_and_high)?;
-    example(rt, "zero over stop", three_and_zero, three)?;
-    example(rt, "stop over restart", three, three_then_read)?;
-    example(rt, "restart over one", three_then_read, three_and_high)?;
-    example(rt, "more over fewer", three_bytes, two_bytes)?;
-    example(rt, "equal writes", register, register)?;
-    joined_queues(rt)
+fn lines() -> ArrayString<ALL>
+    ensures { (text : List ℕ) × (joined : List ℕ) × Examples text × Joined joined × (result.bytes ≡ text ++ joined) }
+{
+    let clocks = all_clocks();
+    let registers = Address::new(REGISTERS).unwrap();
+    let three = Transfer::write(registers, &[0x03]).unwrap();
+    let three_and_high = Transfer::write(registers, &[0x03, 0x80]).unwrap();
+    let three_and_zero = Transfer::write(registers, &[0x03, 0x00]).unwrap();
+    let three_then_read = Transfer::write_then_read(registers, &[0x03], 1).unwrap();
+    let register = Transfer::write(registers, &[0x03, 0x12]).unwrap();
+    let three_bytes = Transfer::read(registers, 3).unwrap();
+    let two_bytes = Transfer::read(registers, 2).unwrap();
+    let mut text = ArrayString::new();
+    push_example(&mut text, &clocks, "stop over one", three, three_and_high);
+    push_example(&mut text, &clocks, "zero over stop", three_and_zero, three);
+    push_example(&mut text, &clocks, "stop over restart", three, three_then_read);
+    push_example(&mut text, &clocks, "restart over one", three_then_read, three_and_high);
+    push_example(&mut text, &clocks, "more over fewer", three_bytes, two_bytes);
+    push_example(&mut text, &clocks, "equal writes", register, register);
+    push_joined(&mut text);
+    text
+}
+
+pub fn run<O: Output>(out: &mut O) -> io::Result<()>
+    ensures { (text : List ℕ) × (joined : List ℕ) × Examples text × Joined joined × Puts O.Output.takes O.Output.fails (text ++ joined) out.old result out.new }
+{
+    out.put(lines().as_str().as_bytes())
 }

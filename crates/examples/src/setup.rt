@@ -1,5 +1,5 @@
 // The clocks of the examples, and the bus of two queues.
-ghost use Rattle.std.specs.Prelude.{◌≡◌, map, IfOk};
+ghost use Rattle.std.specs.Prelude.{◌≡◌, map};
 ghost use Rattle.exchange.specs.Parts.{bus_model};
 ghost use Rattle.examples.specs.Setups.{counts, all_counts, IsQueues};
 
@@ -9,7 +9,7 @@ use host::ListHost;
 use master::Master;
 use parts::{Clocks, list_of, queue_of};
 use port::Port;
-use transfer::{Address, ClockPair, Refusal, Transfer};
+use transfer::{Address, ClockPair, Transfer};
 
 pub type QueueBus = Bus<(Master<ListHost>, End), (Port<EventQueue>, (Port<EventQueue>, End))>;
 
@@ -17,38 +17,38 @@ pub type QueueBus = Bus<(Master<ListHost>, End), (Port<EventQueue>, (Port<EventQ
 const EVENTS: u32 = 0x51;
 
 // Alike, nearly alike, each slower in one count, and as far apart as can be: who wins must not depend on them.
-pub fn all_clocks() -> Result<[Clocks; 4], Refusal>
-    ensures { IfOk result (λ clocks. map counts clocks ≡ all_counts) }
+pub fn all_clocks() -> [Clocks; 4]
+    ensures { map counts result ≡ all_counts }
 {
-    let quick = ClockPair::new(1, 1)?;
-    Ok([
+    let quick = ClockPair::new(1, 1).unwrap();
+    [
         Clocks {
             first: quick,
             second: quick,
         },
         Clocks {
             first: quick,
-            second: ClockPair::new(2, 1)?,
+            second: ClockPair::new(2, 1).unwrap(),
         },
         Clocks {
-            first: ClockPair::new(3, 2)?,
-            second: ClockPair::new(1, 4)?,
+            first: ClockPair::new(3, 2).unwrap(),
+            second: ClockPair::new(1, 4).unwrap(),
         },
         Clocks {
-            first: ClockPair::new(255, 255)?,
+            first: ClockPair::new(255, 255).unwrap(),
             second: quick,
         },
-    ])
+    ]
 }
 
 // One master reads one byte from two queues.
-pub fn queue_bus() -> Result<QueueBus, Refusal>
-    ensures { IfOk result (λ u. IsQueues (bus_model u)) }
+pub fn queue_bus() -> QueueBus
+    ensures { IsQueues (bus_model result) }
 {
-    let events = Address::new(EVENTS)?;
-    let read = Transfer::read(events, 1)?;
-    let reader = Master::new(ClockPair::new(1, 1)?, list_of(&[read])?);
-    let first = Port::new(events, queue_of(&[0x3C])?);
-    let second = Port::new(events, queue_of(&[0x5A])?);
-    Ok(Bus::new((reader, End), (first, (second, End))))
+    let events = Address::new(EVENTS).unwrap();
+    let read = Transfer::read(events, 1).unwrap();
+    let reader = Master::new(ClockPair::new(1, 1).unwrap(), list_of(&[read]).unwrap());
+    let first = Port::new(events, queue_of(&[0x3C]).unwrap());
+    let second = Port::new(events, queue_of(&[0x5A]).unwrap());
+    Bus::new((reader, End), (first, (second, End)))
 }

@@ -1,5 +1,5 @@
 -- The head put together from its parts.
-use Rattle.std.proofs.Common.{◌≡◌, ℕ, false, List, Ok, Result}
+use Rattle.std.proofs.Common.{◌≡◌, ℕ, false, List}
 use Rattle.device.specs.BusyLayers.{Busied, busy_over}
 use Rattle.device.specs.EventQueues.{event_queue}
 use Rattle.device.specs.RegisterFiles.{Registers, register_file, new_registers}
@@ -11,10 +11,6 @@ use Rattle.law.specs.Buses.{BusModel, made}
 use Rattle.master.specs.Serving.{Served}
 use Rattle.port.specs.Ports.{PortModel, new_port}
 use Rattle.head.specs.Setups.{serving, idle_registers, slow_queue, quick_queue, head_hosts, head_devices, head}
-
--- what is made at a known address
-pub at : {X : Type 0} (make : ℕ → Result X ℕ) (x y : X) (address known : ℕ) → Ok x ≡ make address → address ≡ known → make known ≡ Ok y → x ≡ y
-at make x y address known e is made_there = cc
 
 -- a master whose clock counts and host are known
 pub serves : (h : HostBehaviour) (x : Served h) (counts known : ℕ × ℕ) (m n : h.Meaning) →

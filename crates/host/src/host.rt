@@ -10,8 +10,8 @@ pub trait Host {
 
     ghost means: { Self → behaviour.Meaning };
 
-    // Whether it wants a transfer, and which; beside a `false` the transfer says nothing. A flag and no `Option`, since it
-    // is a rule of the project that makes of host answer so.
+    // Whether it wants a transfer, and which; beside a `false` the transfer says nothing. A flag and no `Option`, so that a
+    // make which keeps its transfer, as the poll host, answers both as they stand, without cases.
     fn want(&self) -> (bool, Transfer)
         ensures { wanted result ≡ behaviour.want (means self.now) };
 

@@ -16,4 +16,5 @@ pub mod Morphisms
 pub mod Noting
 pub mod Alongside
 pub mod Winners
+pub mod Resting
 pub mod Asked

@@ -1,7 +1,7 @@
 -- What the ports asked of their devices in a turn, and what that has to do with strings and outcomes. Assumes nothing.
-use Rattle.std.specs.Prelude.{◌≡◌, ℕ, zero, suc, ◌+◌, ◌*◌, ◌<◌, true, false, cond, ◌&&◌, ◌⊎◌, List, [], ◌∷◌, ◌++◌, map, length, take as first, is_some, Some, None, Option, nat_lt, slice_get, slice_index, slice_index_or}
+use Rattle.std.specs.Prelude.{◌≡◌, ℕ, zero, suc, ◌+◌, ◌*◌, ◌<◌, ◌≤◌, true, false, cond, ◌&&◌, ◌⊎◌, ◌≢◌, List, [], ◌∷◌, ◌++◌, map, length, take as first, is_some, Some, None, Option, nat_lt, slice_get, slice_index, slice_index_or}
 use Rattle.std.specs.Option.{option_to_list}
-use Rattle.transfer.specs.declared.leg.Direction.TheVariants.{Write}
+use Rattle.transfer.specs.declared.leg.Direction.TheVariants.{Write, Read}
 use Rattle.transfer.specs.declared.outcome.OutcomeKind.TheVariants.{Done}
 use Rattle.transfer.specs.Drafts.{TransferModel}
 use Rattle.transfer.specs.Legs.{BodyModel, writes, reads, LegModel, body_size}
@@ -16,9 +16,9 @@ use Rattle.law.specs.Banks.{Bank, listed}
 use Rattle.law.specs.Books.{contends_with}
 use Rattle.law.specs.Buses.{told_at}
 use Rattle.law.specs.Carrying.{Placed, joined, carried}
-use Rattle.law.specs.Facts.{write_leg, read_leg}
+use Rattle.law.specs.Facts.{read_leg}
 use Rattle.law.specs.Strings.{Letter}
-use Rattle.law.specs.Laws.{Call, Use, event_at, watched, asked_then, beginning, used}
+use Rattle.law.specs.Laws.{Call, Use, event_at, watched, asks_at, nothing_asked, asked_then, beginning, used}
 
 -- a device's meaning, and the steps that were asked of it
 pub record Noted (b : Behaviour) : Type 0 where
@@ -65,23 +65,25 @@ leg_of t zero = Some t.first
 leg_of t (suc zero) = t.second
 leg_of t (suc (suc k)) = None
 
--- where the acknowledge of byte y of leg k stands in the string
+-- where in the string of a transfer the acknowledge stands that follows the call of leg k and m bytes written in it
 abbrev pub acknowledge_at : TransferModel → ℕ → ℕ → ℕ
-acknowledge_at t zero y = 9 * suc y + 8
-acknowledge_at t (suc k) y = 9 * suc (body_size t.first.body) + suc (9 * suc y + 8)
-
--- selected for writing and given these bytes, each with a yes
-abbrev pub written_so : List ℕ → List Step
-written_so xs = select Write true ∷ map (λ x. put x true) xs
+acknowledge_at t zero m = 9 * m + 8
+acknowledge_at t (suc k) m = 9 * suc (body_size t.first.body) + suc (9 * m + 8)
 
 abbrev pub EndsWith : List Step → List Step → Type 0
 EndsWith ss end = (front : List Step) × (ss ≡ front ++ end)
 
--- of some port with this address the steps end so
-abbrev pub SomeEndsWith : List ℕ → List (List Step) → ℕ → List Step → Type 0
-SomeEndsWith [] rs a end = ⊥
-SomeEndsWith (o ∷ os) [] a end = ⊥
-SomeEndsWith (o ∷ os) (r ∷ rs) a end = ((answers_to o a ≡ true) × EndsWith r end) ⊎ SomeEndsWith os rs a end
+-- these are the steps of a device that said yes to the call of a leg and to each of the first m bytes written in it; called
+-- for a read, it gives a first byte in the tick in which the A for the call is heard
+abbrev pub Acknowledged : BodyModel → ℕ → List Step → Type 0
+Acknowledged (writes xs) m ss = EndsWith ss (select Write true ∷ map (λ x. put x true) (first m xs))
+Acknowledged (reads n) m ss = (x : ℕ) × EndsWith ss (select Read true ∷ take x ∷ [])
+
+-- of some port with this address the steps are such
+abbrev pub OfSome : List ℕ → List (List Step) → ℕ → (List Step → Type 0) → Type 0
+OfSome [] rs a Such = ⊥
+OfSome (o ∷ os) [] a Such = ⊥
+OfSome (o ∷ os) (r ∷ rs) a Such = ((answers_to o a ≡ true) × Such r) ⊎ OfSome os rs a Such
 
 -- the steps up to the next select
 abbrev pub before_select : List Step → List Step
@@ -122,6 +124,16 @@ abbrev pub all_at : ℕ → List (List ℕ) → List ℕ
 all_at y [] = []
 all_at y (xs ∷ xss) = option_to_list (slice_get xs y) ++ all_at y xss
 
+-- some bytes were handed over, and this one has the 1 bits that all of them have
+pub record JoinedFrom (xs : List ℕ) (x : ℕ) : Type 0 where
+  pub any : xs ≢ []
+  pub byte : x ≡ joined xs
+
+-- how many bytes a leg writes, and how many it reads
+abbrev pub body_writes : BodyModel → ℕ
+body_writes (writes xs) = length xs
+body_writes (reads n) = 0
+
 abbrev pub body_reads : BodyModel → ℕ
 body_reads (writes xs) = 0
 body_reads (reads n) = n
@@ -143,31 +155,34 @@ module _ (hs : List HostBehaviour) (ds : List Behaviour) where
   abbrev pub StillIn : Use hs ds → ℕ → TransferModel → Type 0
   StillIn x i t = Contends x i t × ((slice_index_or x.watch.marked i false ≡ false) ⊎ ((j : ℕ) (u : TransferModel) → Contends x j u → j ≡ i))
 
-  -- in the next tick, a fall, a contender hears A for byte y of leg k, which writes the bytes xs to address a
-  pub record HearsA (x : Use hs ds) (t : TransferModel) (k a : ℕ) (xs : List ℕ) (y : ℕ) : Type 0 where
+  -- in the next tick, a fall, a contender hears A after the call of leg k and m bytes written in it: for the call where m is
+  -- 0, and otherwise for the last of these bytes
+  pub record HearsA (x : Use hs ds) (t : TransferModel) (k : ℕ) (g : LegModel) (m : ℕ) : Type 0 where
     pub turn : x.book.turn ≡ true
     pub fall : event_at hs ds x.bus ≡ Fall
-    pub leg : leg_of t k ≡ Some (write_leg a xs)
-    pub byte : y < length xs
+    pub leg : leg_of t k ≡ Some g
+    pub bytes : m ≤ body_writes g.body
     pub so_far : List Letter
-    pub place : length so_far ≡ acknowledge_at t k y
+    pub place : length so_far ≡ acknowledge_at t k m
     pub acknowledge : (watched hs ds x.watch x.book Fall).spelled ≡ so_far ++ (Letter.zero ∷ [])
 
-  -- what holds of the steps asked in a turn
+  -- what holds of the steps asked
   pub record AskedLaw (x : Use hs ds) : Type 0 where
-    -- a byte that is heard acknowledged has reached a device: a port with the leg's address selected its device in this leg
-    -- and put the bytes up to this one, and the device said yes each time
-    pub reached : (i : ℕ) (t : TransferModel) → StillIn x i t → (k a : ℕ) (xs : List ℕ) (y : ℕ) → HearsA x t k a xs y →
-        SomeEndsWith (addresses x) (asked_then hs ds x) a (written_so (first (suc y) xs))
-    -- a byte that a done outcome reports has the 1 bits that all had who handed one over for it
+    -- a call or a written byte that is heard acknowledged has reached a device: a port with the leg's address selected its
+    -- device in this leg, in the leg's direction, and put the bytes up to this one, and the device said yes each time
+    pub reached : (i : ℕ) (t : TransferModel) → StillIn x i t → (k : ℕ) (g : LegModel) (m : ℕ) → HearsA x t k g m →
+        OfSome (addresses x) (asked_then hs ds x) g.address (Acknowledged g.body m)
+    -- for a byte that a done outcome reports somebody handed one over, and it has the 1 bits that all had who did
     pub reported : (i : ℕ) (t : TransferModel) (o : OutcomeModel) → Contends x i t → slice_index_or (told_at hs ds x.bus) i None ≡ Some o → o.kind ≡ Done →
         (k a n : ℕ) → leg_of t k ≡ Some (read_leg a n) → (y : ℕ) → y < n →
-        slice_index o.bytes (read_before t k + y) ≡ joined (all_at y (handed_over a (called_before t k a) (addresses x) (asked_then hs ds x)))
+        JoinedFrom (all_at y (handed_over a (called_before t k a) (addresses x) (asked_then hs ds x))) (slice_index o.bytes (read_before t k + y))
     -- so it is the byte of the one device that did, if one alone did
-    pub alone : (x : ℕ) → x < 256 → joined (x ∷ []) ≡ x
+    pub alone : (byte : ℕ) → byte < 256 → joined (byte ∷ []) ≡ byte
     -- at the stop of a turn the steps asked in it are those of a transfer that is told, carried alone: once, however many are told
     pub once : event_at hs ds x.bus ≡ Stop → x.book.turn ≡ true → (i : ℕ) (t : TransferModel) → Contends x i t →
         is_some (slice_index_or (told_at hs ds x.bus) i None) ≡ true → asked_then hs ds x ≡ steps_alone ds t x.book.devices
+    -- and where no turn is open nothing is asked
+    pub resting : x.book.turn ≡ false → asks_at hs ds x.bus ≡ nothing_asked hs ds x.bus
 
   -- at every point of every use of a bus from its making
   abbrev pub EveryAsked : Bank Served hs → Bank PortModel ds → Type 0

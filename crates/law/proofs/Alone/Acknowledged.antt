@@ -1,4 +1,4 @@
--- A transfer played alone, at the acknowledge of a written byte: the ports are those of the leg's devices after the bytes up to this one, and somebody is in.
+-- A transfer played alone, after an A for the call of a leg or for a byte written in it: the ports are those of the leg's devices after the bytes so far, and somebody is in.
 use Rattle.std.proofs.Common.{◌≡◌, ℕ, zero, suc, ◌+◌, ◌*◌, ◌<◌, ◌≤◌, Bool, true, false, cond, List, [], ◌∷◌, ◌++◌, length, take, get_or, map, Some, None, Option, sym, refl, ap, ◌∙◌, subst, arith}
 use Rattle.std.proofs.Math.ListN.{get_or-map}
 use Rattle.transfer.specs.declared.leg.Direction.TheVariants.{Write}
@@ -11,17 +11,17 @@ use Rattle.device.specs.Behaviours.{Behaviour}
 use Rattle.master.specs.Cursors.{sends, at, CursorModel, opening_of}
 use Rattle.master.specs.Scripts.{Script, transfers}
 use Rattle.port.specs.Ports.{PortModel}
-use Rattle.law.specs.Asked.{leg_of, acknowledge_at}
+use Rattle.law.specs.Asked.{leg_of, acknowledge_at, body_writes}
 use Rattle.law.specs.Banks.{Bank, each}
 use Rattle.law.specs.Carrying.{Placed, Taking, taken_from, settled, call_byte, byte_levels, Passed, ends, somebody, written, read, passed_body, passed, carried_on, carried}
 use Rattle.law.specs.Facts.{having, write_leg}
-use Rattle.law.specs.Legal.{LegalLeg, LegalSecond, Legal}
+use Rattle.law.specs.Legal.{LegalBody, LegalLeg, LegalSecond, Legal}
 use Rattle.law.specs.Strings.{Letter, zero as low, stop, restart, one, rank, bit_letter}
 use Rattle.law.proofs.Sides.{Side, ends as ends_with, heard, after, string, last}
 use Rattle.law.proofs.Alone.ByteLaws.{took, ninth, later, nine}
 use Rattle.law.proofs.Alone.CarriedAlone.{carried_alone}
 use Rattle.law.proofs.Alone.Legs.{calls, notes, closing, address_plays, written_plays, leg_plays}
-use Rattle.law.proofs.Alone.Phases.{addressing_at, writing_at, acknowledging_at, called_for, put_to_all, write_on, opened_is}
+use Rattle.law.proofs.Alone.Phases.{addressing_at, writing_at, acknowledging_at, called_for, put_to_all, write_on, ready, gets_ready, opened_is}
 use Rattle.law.proofs.Alone.PortsSide.{ports_side}
 use Rattle.law.proofs.Alone.Runs.{Carries, low_bits, level_slot, Slot}
 use Rattle.law.proofs.Alone.SlotsLeft.{slots_left}
@@ -36,11 +36,6 @@ module _ (W : Script) (D : Side) where
   play_on : (bs cs : List Bool) (s : D.S) → play s (bs ++ cs) ≡ play (play s bs) cs
   play_on [] cs s = refl
   play_on (b ∷ bs) cs s = play_on bs cs (D.bit s b)
-
-  play_next : (m : ℕ) (bs : List Bool) (s : D.S) → m < length bs → play s (take (suc m) bs) ≡ D.bit (play s (take m bs)) (get_or bs m true)
-  play_next m [] s h = absurd (omega arith)
-  play_next zero (b ∷ bs) s h = refl
-  play_next (suc m) (b ∷ bs) s h = play_next m bs (D.bit s b) (omega arith)
 
   plays_to : (bs : List Bool) (c : W.Cursor) (s u : D.S) → Carries W D c s bs (λ q v. v ≡ u) → play s bs ≡ u
   plays_to [] c s u h = h
@@ -102,6 +97,10 @@ past_restart (v ∷ ls) us i (suc n) h = past_restart ls us i n (omega arith)
 low_rank : (x : Letter) → rank x ≡ 0 → x ≡ low
 low_rank x h = grind arith
 
+writes_within : (b : BodyModel) → body_writes b ≤ body_size b
+writes_within (writes xs) = omega arith
+writes_within (reads n) = omega arith
+
 module _ (ds : List Behaviour) where
   -- at most n levels, and n where the leg is done
   record Long (n : ℕ) (r : Passed ds) : Type 0 where
@@ -147,19 +146,19 @@ module _ (ds : List Behaviour) where
   byte_put : (x : ℕ) (w : Bank Taking ds) → x < 256 → plays (each (writing_at 0 0) ds w) (byte_levels x false) ≡ each (writing_at 0 0) ds (put_to_all ds x w)
   byte_put x w h = play_on transfers E (low_bits 8 x []) (false ∷ []) (each (writing_at 0 0) ds w) ∙ (ap (λ u. E.bit u false) (bits_put x w h) ∙ write_on ds (put_to_all ds x w) false)
 
-  leg_called : (a : ℕ) (d : Bank Placed ds) → a < 128 → plays (each (addressing_at 0 0) ds d) (byte_levels (a * 2) false) ≡ each (writing_at 0 0) ds (called_for ds a Write d)
-  leg_called a d h =
-      let u = each (acknowledging_at Write) ds (called_for ds a Write d) in
-      let z : plays (each (addressing_at 0 0) ds d) (low_bits 8 (a * 2) []) ≡ u =
-      plays_to transfers E (low_bits 8 (a * 2) []) (at (sends (write_leg a []) None 0 0) (notes 0 [] 0 Done)) (each (addressing_at 0 0) ds d) u
-      (address_plays ds None (λ c w. w ≡ u) (write_leg a []) (a * 2) (notes 0 [] 0 Done) d [] (calls a (writes []) h) refl) in
-      play_on transfers E (low_bits 8 (a * 2) []) (false ∷ []) (each (addressing_at 0 0) ds d) ∙ (ap (λ w. E.bit w false) z ∙ write_on ds (called_for ds a Write d) false)
+  abbrev starts : Bank Placed ds → Bank PortModel ds
+  starts d = each (addressing_at 0 0) ds d
 
-  -- the bits of a byte that somebody took, and the levels after its acknowledge
-  at_bits : (x : ℕ) (r s : Passed ds) (t : Bool) (p q : Bank PortModel ds) → t ≡ true → plays p (low_bits 8 x []) ≡ q → plays p (take 8 (took ds x r s t).levels) ≡ q
-  at_bits x r s true p q e f = f
-  at_bits x r s false p q e f = cc
+  leg_called : (a : ℕ) (b : BodyModel) (d : Bank Placed ds) → a < 128 → plays (starts d) (byte_levels (call_byte a b) false) ≡ ready ds b (called_for ds a (body_direction b) d)
+  leg_called a b d h =
+      let x = call_byte a b in let g : LegModel = record { address = a; body = b } in let e = called_for ds a (body_direction b) d in
+      let u = each (acknowledging_at (body_direction b)) ds e in
+      let z : plays (starts d) (low_bits 8 x []) ≡ u =
+      plays_to transfers E (low_bits 8 x []) (at (sends g None 0 0) (notes 0 [] 0 Done)) (starts d) u
+      (address_plays ds None (λ c w. w ≡ u) g x (notes 0 [] 0 Done) d [] (calls a b h) refl) in
+      play_on transfers E (low_bits 8 x []) (false ∷ []) (starts d) ∙ (ap (λ w. E.bit w false) z ∙ gets_ready ds b e)
 
+  -- the levels after the acknowledge of a byte that somebody took
   after_bits : (x m : ℕ) (r s : Passed ds) (t : Bool) (p q u : Bank PortModel ds) → t ≡ true → plays p (byte_levels x false) ≡ q → plays q (take m r.levels) ≡ u →
       plays p (take (suc (suc (suc (suc (suc (suc (suc (suc (suc m))))))))) (took ds x r s t).levels) ≡ u
   after_bits x m r s true p q u e f h = ap (λ v. plays v (take m r.levels)) f ∙ h
@@ -168,75 +167,82 @@ module _ (ds : List Behaviour) where
   someone_took : (x : ℕ) (r s : Passed ds) (t : Bool) (k : ℕ) → s.levels ≡ [] → get_or (took ds x r s t).levels (suc (suc (suc (suc (suc (suc (suc (suc (suc k))))))))) true ≡ false → t ≡ true
   someone_took x r s t k e h = grind arith
 
-  -- before the acknowledge counts of which these levels are the first, somebody of these devices is in, and each port is to acknowledge
-  abbrev Acknowledging : Bank PortModel ds → List Bool → Bank Taking ds → Type 0
-  Acknowledging p ls w = (somebody ds w ≡ true) × (plays p ls ≡ each (acknowledging_at Write) ds w)
+  -- after these levels somebody of these devices is in, and each port is ready for what follows
+  abbrev GoesOn : BodyModel → Bank PortModel ds → List Bool → Bank Taking ds → Type 0
+  GoesOn b p ls w = (somebody ds w ≡ true) × (plays p ls ≡ ready ds b w)
 
   put_played : (l : ℕ) (xs : List ℕ) (n : ℕ) (e : Bank Taking ds) (y : ℕ) → Octets xs → y < length xs → get_or (written ds l xs n e).levels (9 * y + 8) true ≡ false →
-      Acknowledging (each (writing_at 0 0) ds e) (take (9 * y + 8) (written ds l xs n e).levels) (having ds (take (suc y) xs) e)
+      GoesOn (writes xs) (each (writing_at 0 0) ds e) (take (suc (9 * y + 8)) (written ds l xs n e).levels) (having ds (take (suc y) xs) e)
   put_played l [] n e y o h q = absurd (omega arith)
   put_played l (x ∷ xs) n e zero o h q = let w = put_to_all ds x e in let r = written ds l xs (suc n) w in let s = ends ds (Refused (record { leg = l; byte = n })) w in
-      let t : somebody ds w ≡ true = ninth ds x r s (somebody ds w) q in
-      (t, at_bits x r s (somebody ds w) (each (writing_at 0 0) ds e) (each (acknowledging_at Write) ds w) t (bits_put x e (o 0)))
+      let t : somebody ds w ≡ true = ninth ds x r s (somebody ds w) q in let u = each (writing_at 0 0) ds w in
+      (t, after_bits x 0 r s (somebody ds w) (each (writing_at 0 0) ds e) u u t (byte_put x e (o 0)) refl)
   put_played l (x ∷ xs) n e (suc y) o h q = let w = put_to_all ds x e in let r = written ds l xs (suc n) w in let s = ends ds (Refused (record { leg = l; byte = n })) w in
       let p : get_or (took ds x r s (somebody ds w)).levels (suc (suc (suc (suc (suc (suc (suc (suc (suc (9 * y + 8)))))))))) true ≡ false = rw (nine y) at q in
       let z = put_played l xs (suc n) w y (λ j. o (suc j)) (omega arith) (later ds x r s (somebody ds w) (9 * y + 8) refl p) in (
         z.0,
-        ap (λ m. plays (each (writing_at 0 0) ds e) (take m (took ds x r s (somebody ds w)).levels)) (nine y) ∙
-            after_bits x (9 * y + 8) r s (somebody ds w) (each (writing_at 0 0) ds e) (each (writing_at 0 0) ds w) (each (acknowledging_at Write) ds (having ds (take (suc y) xs) w))
+        ap (λ m. plays (each (writing_at 0 0) ds e) (take (suc m) (took ds x r s (somebody ds w)).levels)) (nine y) ∙
+            after_bits x (suc (9 * y + 8)) r s (somebody ds w) (each (writing_at 0 0) ds e) (each (writing_at 0 0) ds w) (each (writing_at 0 0) ds (having ds (take (suc y) xs) w))
             (someone_took x r s (somebody ds w) (9 * y + 8) refl p) (byte_put x e (o 0)) z.1,
       )
 
-  leg_played : (l a : ℕ) (xs : List ℕ) (d : Bank Placed ds) (y : ℕ) → a < 128 → Octets xs → y < length xs → get_or (passed ds l (write_leg a xs) d).levels (9 * suc y + 8) true ≡ false →
-      Acknowledging (each (addressing_at 0 0) ds d) (take (9 * suc y + 8) (passed ds l (write_leg a xs) d).levels) (having ds (take (suc y) xs) (called_for ds a Write d))
-  leg_played l a xs d y n o h q = let e = called_for ds a Write d in let r = written ds l xs 0 e in let s = ends ds (NoAnswer (record { leg = l })) e in
+  call_played : (l a : ℕ) (b : BodyModel) (d : Bank Placed ds) → a < 128 → get_or (passed ds l (record { address = a; body = b }) d).levels 8 true ≡ false →
+      GoesOn b (starts d) (take 9 (passed ds l (record { address = a; body = b }) d).levels) (called_for ds a (body_direction b) d)
+  call_played l a b d h q = let e = called_for ds a (body_direction b) d in let r = passed_body ds l b e in let s = ends ds (NoAnswer (record { leg = l })) e in
+      let t : somebody ds e ≡ true = ninth ds (call_byte a b) r s (somebody ds e) q in
+      (t, after_bits (call_byte a b) 0 r s (somebody ds e) (starts d) (ready ds b e) (ready ds b e) t (leg_called a b d h) refl)
+
+  -- the devices in a leg after its first m bytes
+  abbrev pub having_first : BodyModel → ℕ → Bank Taking ds → Bank Taking ds
+  having_first (writes xs) m e = having ds (take m xs) e
+  having_first (reads n) m e = e
+
+  abbrev pub in_leg_after : LegModel → ℕ → Bank Placed ds → Bank Taking ds
+  in_leg_after g m d = having_first g.body m (called_for ds g.address (body_direction g.body) d)
+
+  leg_played : (l a : ℕ) (b : BodyModel) (d : Bank Placed ds) (m : ℕ) → a < 128 → LegalBody b → m ≤ body_writes b → get_or (passed ds l (record { address = a; body = b }) d).levels (9 * m + 8) true ≡ false →
+      GoesOn b (starts d) (take (suc (9 * m + 8)) (passed ds l (record { address = a; body = b }) d).levels) (in_leg_after (record { address = a; body = b }) m d)
+  leg_played l a (writes xs) d zero n o h q = call_played l a (writes xs) d n q
+  leg_played l a (writes xs) d (suc y) n o h q = let e = called_for ds a Write d in let r = written ds l xs 0 e in let s = ends ds (NoAnswer (record { leg = l })) e in
       let p : get_or (took ds (a * 2) r s (somebody ds e)).levels (suc (suc (suc (suc (suc (suc (suc (suc (suc (9 * y + 8)))))))))) true ≡ false = rw (nine y) at q in
-      let z = put_played l xs 0 e y o h (later ds (a * 2) r s (somebody ds e) (9 * y + 8) refl p) in (
+      let z = put_played l xs 0 e y o.0 (omega arith) (later ds (a * 2) r s (somebody ds e) (9 * y + 8) refl p) in (
         z.0,
-        ap (λ m. plays (each (addressing_at 0 0) ds d) (take m (took ds (a * 2) r s (somebody ds e)).levels)) (nine y) ∙
-            after_bits (a * 2) (9 * y + 8) r s (somebody ds e) (each (addressing_at 0 0) ds d) (each (writing_at 0 0) ds e) (each (acknowledging_at Write) ds (having ds (take (suc y) xs) e))
-            (someone_took (a * 2) r s (somebody ds e) (9 * y + 8) refl p) (leg_called a d n) z.1,
+        ap (λ m. plays (starts d) (take (suc m) (took ds (a * 2) r s (somebody ds e)).levels)) (nine y) ∙
+            after_bits (a * 2) (suc (9 * y + 8)) r s (somebody ds e) (starts d) (each (writing_at 0 0) ds e) (each (writing_at 0 0) ds (having ds (take (suc y) xs) e))
+            (someone_took (a * 2) r s (somebody ds e) (9 * y + 8) refl p) (leg_called a (writes xs) d n) z.1,
       )
+  leg_played l a (reads n) d zero k o h q = call_played l a (reads n) d k q
+  leg_played l a (reads n) d (suc y) k o h q = absurd (omega arith)
 
   abbrev up_to : ℕ → CursorModel → Bank PortModel ds → Bank PortModel ds
   up_to m c s = last transfers E m c s
 
-  abbrev starts : Bank Placed ds → Bank PortModel ds
-  starts d = each (addressing_at 0 0) ds d
-
-  -- after m slots, and one more, the ports are those of devices that were called at address a, and to which the bytes ys were put, somebody still in
-  pub record HasPut (m : ℕ) (c : CursorModel) (s : Bank PortModel ds) (a : ℕ) (ys : List ℕ) : Type 0 where
+  -- after j slots and the acknowledge the ports are those of devices that were called for leg g and given its first m bytes, somebody still in
+  pub record HasAnswered (j : ℕ) (c : CursorModel) (s : Bank PortModel ds) (g : LegModel) (m : ℕ) : Type 0 where
     pub before : Bank Placed ds
-    pub some : somebody ds (having ds ys (called_for ds a Write before)) ≡ true
-    pub now : up_to m c s ≡ each (acknowledging_at Write) ds (having ds ys (called_for ds a Write before))
-    pub then : up_to (suc m) c s ≡ each (writing_at 0 0) ds (having ds ys (called_for ds a Write before))
+    pub some : somebody ds (in_leg_after g m before) ≡ true
+    pub then : up_to (suc j) c s ≡ ready ds g.body (in_leg_after g m before)
 
   -- some slots of a leg
   in_leg : (g : LegModel) (l : ℕ) (o : Option LegModel) (ys : List ℕ) (d : Bank Placed ds) (m : ℕ) → LegalLeg g → m ≤ length (passed ds l g d).levels →
       up_to m (at (sends g o 0 0) (notes l ys 0 Done)) (starts d) ≡ plays (starts d) (take m (passed ds l g d).levels)
   in_leg g l o ys d m h n = last_in transfers E m (passed ds l g d).levels (λ c u. Unit {0}) (at (sends g o 0 0) (notes l ys 0 Done)) (starts d) n (leg_plays ds o (λ c u. Unit {0}) g l ys d h (λ u q. tt))
 
-  leg_put : (l a : ℕ) (xs : List ℕ) (o : Option LegModel) (ys : List ℕ) (d : Bank Placed ds) (y : ℕ) → LegalLeg (write_leg a xs) → y < length xs →
-      get_or (passed ds l (write_leg a xs) d).levels (9 * suc y + 8) true ≡ false → HasPut (9 * suc y + 8) (at (sends (write_leg a xs) o 0 0) (notes l ys 0 Done)) (starts d) a (take (suc y) xs)
-  leg_put l a xs o ys d y g h q = let ls = (passed ds l (write_leg a xs) d).levels in let m = 9 * suc y + 8 in let w = having ds (take (suc y) xs) (called_for ds a Write d) in
-      let n = low_there ls m q in
-      let z = leg_played l a xs d y (omega (arith, g.most)) g.within.0 h q in
-      record {
-        before = d;
-        some = z.0;
-        now = in_leg (write_leg a xs) l o ys d m g (omega arith) ∙ z.1;
-        then = in_leg (write_leg a xs) l o ys d (suc m) g (omega arith) ∙ (play_next transfers E m ls (starts d) n ∙ (ap (E.bit (plays (starts d) (take m ls))) q ∙ (ap (λ u. E.bit u false) z.1 ∙ write_on ds w false)));
-      }
+  leg_answered : (l : ℕ) (g : LegModel) (o : Option LegModel) (ys : List ℕ) (d : Bank Placed ds) (m : ℕ) → LegalLeg g → m ≤ body_writes g.body →
+      get_or (passed ds l g d).levels (9 * m + 8) true ≡ false → HasAnswered (9 * m + 8) (at (sends g o 0 0) (notes l ys 0 Done)) (starts d) g m
+  leg_answered l g o ys d m f h q = let n = low_there (passed ds l g d).levels (9 * m + 8) q in
+      let z = leg_played l g.address g.body d m (omega (arith, f.most)) f.within h q in
+      record { before = d; some = z.0; then = in_leg g l o ys d (suc (9 * m + 8)) f (omega arith) ∙ z.1 }
 
   -- leg 0
-  first_put : (a : ℕ) (xs : List ℕ) (o : Option LegModel) (d : Bank Placed ds) (y : ℕ) → LegalLeg (write_leg a xs) → y < length xs → let r = passed ds 0 (write_leg a xs) d in
-      (k : OutcomeKind) → r.kind ≡ k → get_or (carried_on ds r k o).letters (9 * suc y + 8) one ≡ low → HasPut (9 * suc y + 8) (at (sends (write_leg a xs) o 0 0) (notes 0 [] 0 Done)) (starts d) a (take (suc y) xs)
-  first_put a xs o d y g h (NoAnswer p) e q = leg_put 0 a xs o [] d y g h (low_before_stop (passed ds 0 (write_leg a xs) d).levels (9 * suc y + 8) q)
-  first_put a xs o d y g h (Refused p) e q = leg_put 0 a xs o [] d y g h (low_before_stop (passed ds 0 (write_leg a xs) d).levels (9 * suc y + 8) q)
-  first_put a xs None d y g h Done e q = leg_put 0 a xs None [] d y g h (low_before_stop (passed ds 0 (write_leg a xs) d).levels (9 * suc y + 8) q)
-  first_put a xs (Some f) d y g h Done e q =
-      let r = passed ds 0 (write_leg a xs) d in let z = (leg_long 0 (write_leg a xs) d).all e in let s = passed ds 1 f (each settled ds r.devices) in
-      leg_put 0 a xs (Some f) [] d y g h (low_level r.levels (restart ∷ (map bit_letter s.levels ++ (stop ∷ []))) (9 * suc y + 8) (omega arith) q)
+  first_answered : (g : LegModel) (o : Option LegModel) (d : Bank Placed ds) (m : ℕ) → LegalLeg g → m ≤ body_writes g.body → let r = passed ds 0 g d in
+      (k : OutcomeKind) → r.kind ≡ k → get_or (carried_on ds r k o).letters (9 * m + 8) one ≡ low → HasAnswered (9 * m + 8) (at (sends g o 0 0) (notes 0 [] 0 Done)) (starts d) g m
+  first_answered g o d m f h (NoAnswer p) e q = leg_answered 0 g o [] d m f h (low_before_stop (passed ds 0 g d).levels (9 * m + 8) q)
+  first_answered g o d m f h (Refused p) e q = leg_answered 0 g o [] d m f h (low_before_stop (passed ds 0 g d).levels (9 * m + 8) q)
+  first_answered g None d m f h Done e q = leg_answered 0 g None [] d m f h (low_before_stop (passed ds 0 g d).levels (9 * m + 8) q)
+  first_answered g (Some i) d m f h Done e q =
+      let r = passed ds 0 g d in let z = (leg_long 0 g d).all e in let s = passed ds 1 i (each settled ds r.devices) in let u = writes_within g.body in
+      leg_answered 0 g (Some i) [] d m f h (low_level r.levels (restart ∷ (map bit_letter s.levels ++ (stop ∷ []))) (9 * m + 8) (omega arith) q)
 
   -- a leg, the repeated start, and some slots of the next
   past_leg : (g f : LegModel) (d : Bank Placed ds) (m n : ℕ) → LegalLeg g → let r = passed ds 0 g d in let w = each settled ds r.devices in
@@ -247,31 +253,27 @@ module _ (ds : List Behaviour) where
       (λ u q. subst (λ z. up_to (suc m) (closing z (Some f) (notes 0 r.bytes 0 z)) u ≡ v) (sym k) (ap (up_to m (at (sends f None 0 0) (notes 1 r.bytes 0 Done))) q.start)))
 
   -- leg 1
-  second_put : (g : LegModel) (a : ℕ) (xs : List ℕ) (d : Bank Placed ds) (y : ℕ) → LegalLeg g → LegalLeg (write_leg a xs) → y < length xs → let r = passed ds 0 g d in let n = 9 * suc (body_size g.body) + suc (9 * suc y + 8) in
-      (k : OutcomeKind) → r.kind ≡ k → get_or (carried_on ds r k (Some (write_leg a xs))).letters n one ≡ low → HasPut n (at (sends g (Some (write_leg a xs)) 0 0) (notes 0 [] 0 Done)) (starts d) a (take (suc y) xs)
-  second_put g a xs d y j f h (NoAnswer p) e q = let r = passed ds 0 g d in let n = 9 * suc (body_size g.body) + suc (9 * suc y + 8) in let z = (leg_long 0 g d).most in let u = low_there r.levels n (low_before_stop r.levels n q) in absurd (omega arith)
-  second_put g a xs d y j f h (Refused p) e q = let r = passed ds 0 g d in let n = 9 * suc (body_size g.body) + suc (9 * suc y + 8) in let z = (leg_long 0 g d).most in let u = low_there r.levels n (low_before_stop r.levels n q) in absurd (omega arith)
-  second_put g a xs d y j f h Done e q =
-      let r = passed ds 0 g d in let w = each settled ds r.devices in let s = passed ds 1 (write_leg a xs) w in
+  second_answered : (g i : LegModel) (d : Bank Placed ds) (m : ℕ) → LegalLeg g → LegalLeg i → m ≤ body_writes i.body → let r = passed ds 0 g d in let n = 9 * suc (body_size g.body) + suc (9 * m + 8) in
+      (k : OutcomeKind) → r.kind ≡ k → get_or (carried_on ds r k (Some i)).letters n one ≡ low → HasAnswered n (at (sends g (Some i) 0 0) (notes 0 [] 0 Done)) (starts d) i m
+  second_answered g i d m j f h (NoAnswer p) e q = let r = passed ds 0 g d in let n = 9 * suc (body_size g.body) + suc (9 * m + 8) in let z = (leg_long 0 g d).most in let u = low_there r.levels n (low_before_stop r.levels n q) in absurd (omega arith)
+  second_answered g i d m j f h (Refused p) e q = let r = passed ds 0 g d in let n = 9 * suc (body_size g.body) + suc (9 * m + 8) in let z = (leg_long 0 g d).most in let u = low_there r.levels n (low_before_stop r.levels n q) in absurd (omega arith)
+  second_answered g i d m j f h Done e q =
+      let r = passed ds 0 g d in let w = each settled ds r.devices in let s = passed ds 1 i w in
+      let n = 9 * suc (body_size g.body) + suc (9 * m + 8) in
       let z = (leg_long 0 g d).all e in
-      let u = leg_put 1 a xs None r.bytes w y f h (low_before_stop s.levels (9 * suc y + 8)
-      (sym (past_restart r.levels (map bit_letter s.levels ++ (stop ∷ [])) (9 * suc y + 8) (9 * suc (body_size g.body) + suc (9 * suc y + 8)) (omega arith)) ∙ q)) in
-      record {
-        before = u.before;
-        some = u.some;
-        now = past_leg g (write_leg a xs) d (9 * suc y + 8) (9 * suc (body_size g.body) + suc (9 * suc y + 8)) j e (omega arith) ∙ u.now;
-        then = past_leg g (write_leg a xs) d (suc (9 * suc y + 8)) (suc (9 * suc (body_size g.body) + suc (9 * suc y + 8))) j e (omega arith) ∙ u.then;
-      }
+      let u = leg_answered 1 i None r.bytes w m f h (low_before_stop s.levels (9 * m + 8)
+      (sym (past_restart r.levels (map bit_letter s.levels ++ (stop ∷ [])) (9 * m + 8) n (omega arith)) ∙ q)) in
+      record { before = u.before; some = u.some; then = past_leg g i d (suc (9 * m + 8)) (suc n) j e (omega arith) ∙ u.then }
 
-  transfer_put : (t : TransferModel) (d : Bank Placed ds) (k y a : ℕ) (xs : List ℕ) → Legal t → leg_of t k ≡ Some (write_leg a xs) → y < length xs →
-      get_or (carried ds t d).letters (acknowledge_at t k y) one ≡ low → HasPut (acknowledge_at t k y) (opening_of t) (starts d) a (take (suc y) xs)
-  transfer_put t d zero y a xs g e h q = let z : t.first ≡ write_leg a xs = cc in
-      subst (λ w. LegalLeg w → get_or (carried ds (record { first = w; second = t.second }) d).letters (9 * suc y + 8) one ≡ low → HasPut (9 * suc y + 8) (at (sends w t.second 0 0) (notes 0 [] 0 Done)) (starts d) a (take (suc y) xs))
-      (sym z) (λ l. first_put a xs t.second d y l h (passed ds 0 (write_leg a xs) d).kind refl) g.first_leg q
-  transfer_put t d (suc zero) y a xs g e h q = let n = 9 * suc (body_size t.first.body) + suc (9 * suc y + 8) in
-      subst (λ o. LegalSecond o → get_or (carried ds (record { first = t.first; second = o }) d).letters n one ≡ low → HasPut n (at (sends t.first o 0 0) (notes 0 [] 0 Done)) (starts d) a (take (suc y) xs))
-      (sym e) (λ l. second_put t.first a xs d y g.first_leg l h (passed ds 0 t.first d).kind refl) g.second_leg q
-  transfer_put t d (suc (suc k)) y a xs g e h q = cc
+  transfer_answered : (t : TransferModel) (d : Bank Placed ds) (k m : ℕ) (g : LegModel) → Legal t → leg_of t k ≡ Some g → m ≤ body_writes g.body →
+      get_or (carried ds t d).letters (acknowledge_at t k m) one ≡ low → HasAnswered (acknowledge_at t k m) (opening_of t) (starts d) g m
+  transfer_answered t d zero m g l e h q = let z : t.first ≡ g = cc in
+      subst (λ w. LegalLeg w → get_or (carried ds (record { first = w; second = t.second }) d).letters (9 * m + 8) one ≡ low → HasAnswered (9 * m + 8) (at (sends w t.second 0 0) (notes 0 [] 0 Done)) (starts d) g m)
+      (sym z) (λ f. first_answered g t.second d m f h (passed ds 0 g d).kind refl) l.first_leg q
+  transfer_answered t d (suc zero) m g l e h q = let n = 9 * suc (body_size t.first.body) + suc (9 * m + 8) in
+      subst (λ o. LegalSecond o → get_or (carried ds (record { first = t.first; second = o }) d).letters n one ≡ low → HasAnswered n (at (sends t.first o 0 0) (notes 0 [] 0 Done)) (starts d) g m)
+      (sym e) (λ f. second_answered t.first g d m l.first_leg f h (passed ds 0 t.first d).kind refl) l.second_leg q
+  transfer_answered t d (suc (suc k)) m g l e h q = cc
 
   -- within some slots a letter is the carried string's
   pub low_carried : (t : TransferModel) (d : Bank Placed ds) (i j : ℕ) → Legal t → get_or (string transfers E i (opening_of t) (opened_ports ds d)) j 3 ≡ 0 → get_or (carried ds t d).letters j one ≡ low
@@ -280,6 +282,6 @@ module _ (ds : List Behaviour) where
       low_rank (get_or (carried ds t d).letters j one)
       (sym (get_or-map rank (carried ds t d).letters j one) ∙ (sym (ap (λ l. get_or l j 3) (carried_alone ds t d n g (omega arith)).same_letters) ∙ z))
 
-  pub acknowledged : (t : TransferModel) (d : Bank Placed ds) (k y a : ℕ) (xs : List ℕ) → Legal t → leg_of t k ≡ Some (write_leg a xs) → y < length xs →
-      get_or (carried ds t d).letters (acknowledge_at t k y) one ≡ low → HasPut (acknowledge_at t k y) (opening_of t) (opened_ports ds d) a (take (suc y) xs)
-  acknowledged t d k y a xs g e h q = subst (λ s. HasPut (acknowledge_at t k y) (opening_of t) s a (take (suc y) xs)) (sym (opened_is ds d)) (transfer_put t d k y a xs g e h q)
+  pub answered : (t : TransferModel) (d : Bank Placed ds) (k m : ℕ) (g : LegModel) → Legal t → leg_of t k ≡ Some g → m ≤ body_writes g.body →
+      get_or (carried ds t d).letters (acknowledge_at t k m) one ≡ low → HasAnswered (acknowledge_at t k m) (opening_of t) (opened_ports ds d) g m
+  answered t d k m g l e h q = subst (λ s. HasAnswered (acknowledge_at t k m) (opening_of t) s g m) (sym (opened_is ds d)) (transfer_answered t d k m g l e h q)

@@ -19,7 +19,7 @@ use Rattle.port.specs.Ports.{PortModel}
 use Rattle.master.specs.Scripts.{transfers}
 use Rattle.master.specs.Symbols.{bit_symbol}
 use Rattle.law.specs.Legal.{LegalBody, LegalLeg}
-use Rattle.law.proofs.Alone.Phases.{addressing_at, writing_at, acknowledging_at, reading_at, out_at, joined_byte, reading_pulls, called_for, put_to_all, address_more, address_full, write_more, write_full, read_more, write_on, read_on, read_none, one_more, no_more, address_quiet, write_quiet, acknowledge_pulls, eighth_quiet, Rests, rests_writing, rests_out}
+use Rattle.law.proofs.Alone.Phases.{addressing_at, writing_at, acknowledging_at, reading_at, out_at, joined_byte, reading_pulls, called_for, put_to_all, address_more, address_full, write_more, write_full, read_more, write_on, read_none, ready, gets_ready, one_more, no_more, address_quiet, write_quiet, acknowledge_pulls, eighth_quiet, Rests, rests_writing, rests_out}
 use Rattle.law.proofs.Alone.PortsSide.{ports_side}
 use Rattle.law.proofs.Alone.Runs.{Carries, low_bits, byte}
 
@@ -186,20 +186,12 @@ module _ (ds : List Behaviour) (o : Option LegModel) (K : CursorModel → Bank P
         rw (h, one_more ds d) (read_bytes a c l (ys ++ (x ∷ [])) n (suc y) (each taken_from ds d) (omega arith) (λ u q. rw append_assoc (k u q))),
       ))
 
-  abbrev ready : BodyModel → Bank Taking ds → Bank PortModel ds
-  ready (writes xs) e = each (writing_at 0 0) ds e
-  ready (reads n) e = each (reading_at 0) ds e
-
-  gets_ready : (b : BodyModel) (e : Bank Taking ds) → (ports_side ds).bit (each (acknowledging_at (body_direction b)) ds e) false ≡ ready b e
-  gets_ready (writes xs) e = write_on ds e false
-  gets_ready (reads n) e = read_on ds e
-
   gets_none : (b : BodyModel) (e : Bank Taking ds) → Rests ds ((ports_side ds).bit (each (acknowledging_at (body_direction b)) ds e) true) e
   gets_none (writes xs) e = rw (write_on ds e true) (rests_writing ds e)
   gets_none (reads n) e = rw (read_none ds e) (rests_out ds e)
 
   body_plays : (a : ℕ) (b : BodyModel) (l : ℕ) (ys : List ℕ) (e : Bank Taking ds) → LegalBody b → Ends l ys (passed_body ds l b e) →
-      Goes (onward (leg a b) o 0 (notes l ys 0 Done)) (ready b e) (passed_body ds l b e).levels
+      Goes (onward (leg a b) o 0 (notes l ys 0 Done)) (ready ds b e) (passed_body ds l b e).levels
   body_plays a (writes xs) l ys e f k = write_bytes a l xs ys xs 0 e refl f.0 k
   body_plays a (reads zero) l ys e f k = absurd (omega arith)
   body_plays a (reads (suc n)) l ys e f k = rw (lt-ltb 0 (suc n) (omega arith)) (read_bytes a (suc n) l ys n 0 e (omega arith) k)
@@ -235,7 +227,7 @@ module _ (ds : List Behaviour) (o : Option LegModel) (K : CursorModel → Bank P
       go : (t : Bool) → somebody ds e ≡ t → Ends l ys (cond t yes_so no_so) →
           Goes (at (sends g o 0 0) m) (each (addressing_at 0 0) ds d) (cond t yes_so no_so).levels
       go true i k = address_plays g x m d (false ∷ rest.levels) says
-          (heard_yes g 0 m r e (ready g.body e) rest.levels refl i (gets_ready g.body e) (body_plays g.address g.body l ys e f.within k))
+          (heard_yes g 0 m r e (ready ds g.body e) rest.levels refl i (gets_ready ds g.body e) (body_plays g.address g.body l ys e f.within k))
       go false i k = address_plays g x m d (true ∷ []) says
           (heard_no g 0 l ys r e ((ports_side ds).bit (each (acknowledging_at r) ds e) true) refl i refl
           (rw append-nil at (k ((ports_side ds).bit (each (acknowledging_at r) ds e) true) (gets_none g.body e))))

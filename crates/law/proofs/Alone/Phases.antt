@@ -8,7 +8,7 @@ use Rattle.port.specs.declared.port.Mode.TheVariants.{Out, Addressing, Writing, 
 use Rattle.law.specs.Banks.{Bank, each, listed}
 use Rattle.law.specs.Carrying.{Placed, Taking, selected, put_to, taken_from, gives, settled, joined, somebody}
 use Rattle.wire.specs.Octets.{digit, shifted, part}
-use Rattle.transfer.specs.Legs.{direction_of}
+use Rattle.transfer.specs.Legs.{BodyModel, writes, reads, body_direction, direction_of}
 use Rattle.port.specs.Ports.{PortModel, mode_pulls, answers_to, called}
 use Rattle.law.proofs.Sides.{Side}
 use Rattle.law.proofs.Alone.Banks.{any, each_each, any_each, none_each}
@@ -138,6 +138,15 @@ module _ (ds : List Behaviour) where
 
   pub read_none : (d : Bank Taking ds) → D.bit (each (acknowledging_at Read) ds d) true ≡ each out_at ds d
   read_none d = each_each (acknowledging_at Read) (counting true) out_at (λ b p. read_none_one b p.address p.meaning p.yes p.inside) ds d
+
+  -- after the acknowledge of a leg's call, A
+  abbrev pub ready : BodyModel → Bank Taking ds → Bank PortModel ds
+  ready (writes xs) d = each (writing_at 0 0) ds d
+  ready (reads n) d = each (reading_at 0) ds d
+
+  pub gets_ready : (b : BodyModel) (d : Bank Taking ds) → D.bit (each (acknowledging_at (body_direction b)) ds d) false ≡ ready b d
+  gets_ready (writes xs) d = write_on d false
+  gets_ready (reads n) d = read_on d
 
   pub one_more : (d : Bank Taking ds) → D.bit (each (reading_at 8) ds d) false ≡ each (reading_at 0) ds (each taken_from ds d)
   one_more d = each_each (reading_at 8) (counting false) (λ b p. reading_at 0 b (taken_from b p)) (λ b p. more_one b p.address p.meaning p.yes p.inside) ds d ∙

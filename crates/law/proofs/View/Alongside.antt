@@ -23,7 +23,7 @@ use Rattle.law.proofs.Sides.{Side}
 use Rattle.law.proofs.Alone.Alike.{Alike}
 use Rattle.law.proofs.Alone.Idle.{Idle}
 use Rattle.law.specs.Legal.{Legal}
-use Rattle.law.proofs.Alone.PortsSide.{ports_side, placed}
+use Rattle.law.proofs.Alone.PortsSide.{unheld, ports_side, idle_ports, placed}
 use Rattle.law.proofs.Alone.Reached.{noted_by}
 use Rattle.law.proofs.Alone.SlotsLeft.{slots_left}
 use Rattle.law.proofs.Law.Machine.{Bus}
@@ -160,6 +160,11 @@ module _ (W : Script) (D : Side) (left : W.Cursor → ℕ) (Same : W.Cursor → 
   at_rest _ _ _ _ _ _ (rose u os s0 l v sp cs k r s b n e j c m g q y) z = cc
   at_rest _ _ _ _ _ _ (high u os s0 l v sp cs k r s d c f n e j o z' m g q y) z = cc
 
+-- so the ports, but for what they hold, are those of the book's devices
+pub ports_at_rest : (hs : List HostBehaviour) (ds : List Behaviour) (x : Use hs ds) → StandsAt hs ds x → x.book.turn ≡ false → each unheld ds x.bus.ports ≡ idle_ports ds x.book.devices
+ports_at_rest hs ds x st e = let z = used_as hs ds x in
+    at_rest transfers (ports_side ds) slots_left Alike Legal (Idle ds) z.bus z.book.armed z.book.side z.book.turn z.watch st.0 st.1 (ap (λ v. turn_if v (contenders hs x.book.entries)) e)
+
 longer_nothing : (ds : List Behaviour) (d : Bank Placed (all_recorded ds)) (p : Bank PortModel ds) → longer (all_noted ds d) (listed (λ b q. []) ds p) ≡ all_noted ds d
 longer_nothing [] d p = refl
 longer_nothing (b ∷ ds) d p = ap₂ ◌∷◌ (append-nil d.0.meaning.steps) (longer_nothing ds d.1 p.1)
@@ -257,9 +262,9 @@ module _ (hs : List HostBehaviour) (ds : List Behaviour) where
 
   -- at rest nothing is noted but what the book's devices have
   noted_at_rest : (y : Use hs es) (x : Use hs ds) → y.book.turn ≡ false → x.book.turn ≡ false → StandsAt hs es y → noted_by ds y.bus.ports ≡ longer (all_noted ds y.book.devices) (asked_so_far x)
-  noted_at_rest y x e f st = let z = used_as hs es y in
+  noted_at_rest y x e f st =
       sym (noted_unheld ds y.bus.ports)
-      ∙ (ap (noted_by ds) (at_rest transfers (ports_side es) slots_left Alike Legal (Idle es) z.bus z.book.armed z.book.side z.book.turn z.watch st.0 st.1 (ap (λ v. turn_if v (contenders hs y.book.entries)) e))
+      ∙ (ap (noted_by ds) (ports_at_rest hs es y st e)
       ∙ (noted_idle ds y.book.devices ∙ (sym (longer_nothing ds y.book.devices x.bus.ports) ∙ ap (λ v. longer (all_noted ds y.book.devices) (cond v x.asked (nothing_asked hs ds x.bus))) (sym f))))
 
   module _ (y : Use hs es) (x : Use hs ds) (n : ℕ) (s : Alongside y x) where

@@ -1,7 +1,8 @@
 -- What the ports asked of their devices in a turn: the law of it over every use of a bus.
-use Rattle.std.proofs.Common.{◌≡◌, ℕ, zero, suc, ◌+◌, ◌<◌, Bool, true, false, cond, ◌||◌, List, [], ◌∷◌, ◌++◌, length, map, take, get_or, is_some, Some, None, Option, sym, refl, ap, ap₂, ◌∙◌, subst, inl, inr, arith}
+use Rattle.std.proofs.Common.{◌≡◌, ℕ, zero, suc, ◌+◌, ◌<◌, Bool, true, false, cond, ◌||◌, List, [], ◌∷◌, ◌++◌, length, map, get_or, is_some, Some, None, Option, sym, refl, ap, ap₂, ◌∙◌, subst, inl, inr, arith}
 use Rattle.transfer.specs.declared.outcome.OutcomeKind.TheVariants.{Done}
 use Rattle.transfer.specs.Drafts.{TransferModel}
+use Rattle.transfer.specs.Legs.{LegModel}
 use Rattle.transfer.specs.Outcomes.{OutcomeModel}
 use Rattle.device.specs.Behaviours.{Behaviour}
 use Rattle.device.specs.Steps.{Step}
@@ -14,18 +15,18 @@ use Rattle.master.specs.Serving.{Served}
 use Rattle.port.specs.Ports.{PortModel}
 use Rattle.wire.specs.declared.wire.Event.TheVariants.{Fall}
 use Rattle.wire.specs.Wires.{signal, busy_after}
-use Rattle.law.specs.Asked.{all_recorded, all_unnoted, all_noted, steps_alone, leg_of, acknowledge_at, written_so, SomeEndsWith, handed_over, called_before, read_before, all_at, Contends, StillIn, HearsA, AskedLaw, EveryAsked}
+use Rattle.law.specs.Asked.{all_recorded, all_unnoted, all_noted, steps_alone, leg_of, acknowledge_at, Acknowledged, OfSome, handed_over, called_before, read_before, all_at, JoinedFrom, Contends, StillIn, HearsA, AskedLaw, EveryAsked}
 use Rattle.law.specs.Banks.{Bank, each, listed}
 use Rattle.law.specs.Books.{book_tells, book_after}
-use Rattle.law.specs.Buses.{Holds, levels_at, told_at}
-use Rattle.law.specs.Carrying.{Placed, joined, carried}
+use Rattle.law.specs.Buses.{no_holds, levels_at, told_at}
+use Rattle.law.specs.Carrying.{Placed, carried}
 use Rattle.law.specs.Facts.{read_leg}
 use Rattle.law.specs.Legal.{Legal}
 use Rattle.law.specs.Strings.{Letter, zero as low, rank}
 use Rattle.law.specs.Laws.{Clocked, ticks, Use, watching, longer, sees, is_lost, marked_too, event_at, marks_of, watched, asked_then, ticks_once, used, beginning, Law}
 use Rattle.law.proofs.Sides.{string, last}
 use Rattle.law.proofs.Alone.Alike.{Alike}
-use Rattle.law.proofs.Alone.HandedOver.{joined_alone, reported_alone}
+use Rattle.law.proofs.Alone.HandedOver.{joined_alone, joined_as, reported_alone}
 use Rattle.law.proofs.Alone.Idle.{Idle}
 use Rattle.law.proofs.Alone.PortsSide.{unheld, ports_side, placed}
 use Rattle.law.proofs.Alone.Reached.{noted_by, played_reached}
@@ -36,8 +37,9 @@ use Rattle.law.proofs.View.Alongside.{ports_stay, Alongside, same_event, same_ma
 use Rattle.law.proofs.View.Beginning.{StandsAt, every_use_lawful, every_use_stands}
 use Rattle.law.proofs.View.Booked.{contenders, contenders_legal, turn_if}
 use Rattle.law.proofs.View.Lawful.{legal_at}
-use Rattle.law.proofs.View.Morphisms.{port_places, ports_to, devices_to, places_to, played_to, spelled_to, carried_devices, carried_outcome}
+use Rattle.law.proofs.View.Morphisms.{port_places, device_places, ports_to, devices_to, places_to, played_to, spelled_to, carried_devices, carried_outcome}
 use Rattle.law.proofs.View.Noting.{longer_cancel, forgetting, after_these, length_noted, bare_unnoted, noted_again, noted_after, noted_by_after, noted_unheld, noted_placed, same_holds, with_notes}
+use Rattle.law.proofs.View.Resting.{nothing_at_rest}
 use Rattle.law.proofs.View.Used.{used_as}
 use Rattle.law.proofs.View.Winners.{tells_own, tells_at_stop, devices_won}
 
@@ -65,10 +67,6 @@ one_longer (t ∷ ts) = ap suc (one_longer ts)
 some_of : (X : Type 0) (o : Option X) → is_some o ≡ true → (x : X) × (o ≡ Some x)
 some_of X None h = cc
 some_of X (Some x) h = (x, refl)
-
-no_holds : (ds : List Behaviour) → Holds ds
-no_holds [] = tt
-no_holds (b ∷ ds) = ((0, omega arith), no_holds ds)
 
 length_noted_by : (ds : List Behaviour) (p : Bank PortModel (all_recorded ds)) → length (noted_by ds p) ≡ length ds
 length_noted_by [] p = refl
@@ -131,13 +129,14 @@ module _ (hs : List HostBehaviour) (ds : List Behaviour) where
 
     reported : (i : ℕ) (t : TransferModel) (o : OutcomeModel) → Contends hs ds x i t → get_or (told_at hs ds x.bus) i None ≡ Some o → o.kind ≡ Done →
         (k a n : ℕ) → leg_of t k ≡ Some (read_leg a n) → (z : ℕ) → z < n →
-        get_or o.bytes (read_before t k + z) 0 ≡ joined (all_at z (handed_over a (called_before t k a) (port_places ds x.bus.ports) (asked_then hs ds x)))
+        JoinedFrom (all_at z (handed_over a (called_before t k a) (port_places ds x.bus.ports) (asked_then hs ds x))) (get_or o.bytes (read_before t k + z) 0)
     reported i t o c h done k a n e z f =
         let own : o ≡ (carried es t (all_unnoted ds d)).outcome = tells_own hs ds x.book i t c o (event_at hs ds x.bus) (ap (λ ts. get_or ts i None) (sym lx.tick.tells) ∙ h)
         ∙ (ap (λ q. (carried ds t q).outcome) (sym (bare_unnoted ds d)) ∙ carried_outcome es ds (forgetting ds) t (all_unnoted ds d) (legal i t c)) in
-        ap (λ q. get_or q.bytes (read_before t k + z) 0) own
-        ∙ (reported_alone ds t d k a n z (ap (λ q. q.kind) (sym own) ∙ done) e f
-        ∙ ap₂ (λ os rs. joined (all_at z (handed_over a (called_before t k a) os rs))) (sym s.places) (sym (once i t c o h)))
+        let handed = λ (os : List ℕ) (rs : List (List Step)). all_at z (handed_over a (called_before t k a) os rs) in
+        let reports = λ (q : OutcomeModel). get_or q.bytes (read_before t k + z) 0 in
+        joined_as (handed (device_places ds d) (steps_alone ds t d)) (handed (port_places ds x.bus.ports) (asked_then hs ds x)) (reports (carried es t (all_unnoted ds d)).outcome) (reports o)
+        (ap₂ handed (sym s.places) (sym (once i t c o h))) (ap reports (sym own)) (reported_alone ds t d k a n z (ap (λ q. q.kind) (sym own) ∙ done) e f)
 
     places_then : port_places es then.bus.ports ≡ port_places ds x.bus.ports
     places_then = ports_stay es y.bus.ports (signal y.bus.wire (levels_at hs es y.bus)) (same_holds ds (no_holds ds))
@@ -170,7 +169,7 @@ module _ (hs : List HostBehaviour) (ds : List Behaviour) where
           ∙ (ap (λ ks. get_or (marked_too x.watch.marked ks) i false) (same_marks hs ds y x s) ∙ unmarked_after x.watch.marked (marks_of hs ds x.bus) i m (nobody_lost i)))
       still_in i t (c, inr l) = inr (λ j u e. l j u (ap (λ b. get_or (contenders hs b) j None) (sym s.entries) ∙ (ap (λ b. get_or (contenders hs b.entries) j None) (sym same_book) ∙ e)))
 
-      module _ (i : ℕ) (t : TransferModel) (in_turn : StillIn hs ds x i t) (k a : ℕ) (xs : List ℕ) (n : ℕ) (hears : HearsA hs ds x t k a xs n) where
+      module _ (i : ℕ) (t : TransferModel) (in_turn : StillIn hs ds x i t) (k : ℕ) (g : LegModel) (n : ℕ) (hears : HearsA hs ds x t k g n) where
         abbrev place : ℕ
         place = acknowledge_at t k n
 
@@ -183,7 +182,7 @@ module _ (hs : List HostBehaviour) (ds : List Behaviour) where
         spelled = ap (λ w. w.spelled) (saw_too ∙ (sym (saw ds x open_turn falls) ∙ ap (watched hs ds x.watch x.book) falls)) ∙ hears.acknowledge
 
         reached_by : ForNow transfers (ports_side es) (used_as hs es then).bus (used_as hs es then).book.side (used_as hs es then).watch t →
-            SomeEndsWith (port_places ds x.bus.ports) (asked_then hs ds x) a (written_so (take (suc n) xs))
+            OfSome (port_places ds x.bus.ports) (asked_then hs ds x) g.address (Acknowledged g.body n)
         reached_by (inl z) = absurd (let q : length (map rank then.watch.spelled) ≡ 0 = ap length z in let r = ap (λ l. length (map rank l)) spelled ∙ one_longer hears.so_far in omega arith)
         reached_by (inr f) =
             let m = after_these ds y.book.devices in
@@ -198,9 +197,9 @@ module _ (hs : List HostBehaviour) (ds : List Behaviour) where
             let noted : noted_by ds side ≡ asked_then hs ds x = cancelled (noted_by ds side) (length_noted_by ds side)
             (sym (noted_by_after ds y.book.devices side) ∙ (sym (ap (noted_by ds) same_side) ∙ (noted_unheld ds then.bus.ports ∙ noted_then))) in
             let places : port_places es side ≡ port_places ds x.bus.ports = sym (places_to es es m side) ∙ (sym (ap (port_places es) same_side) ∙ (places_unheld es then.bus.ports ∙ places_then)) in
-            subst (λ os. SomeEndsWith os (asked_then hs ds x) a (written_so (take (suc n) xs))) places
-            (subst (λ rs. SomeEndsWith (port_places es side) rs a (written_so (take (suc n) xs))) noted
-            (played_reached ds t (all_unnoted ds d) (suc place) f.slots_gone k n a xs (legal i t in_turn.0) hears.leg hears.byte (inr refl) there))
+            subst (λ os. OfSome os (asked_then hs ds x) g.address (Acknowledged g.body n)) places
+            (subst (λ rs. OfSome (port_places es side) rs g.address (Acknowledged g.body n)) noted
+            (played_reached ds t (all_unnoted ds d) f.slots_gone k n g (legal i t in_turn.0) hears.leg hears.bytes there))
 
   module _ (ms : Bank Served hs) (ps : Bank PortModel ds) (clocked : Clocked hs ms) where
     asked_law : (x : Use hs ds) → Beside hs ds ms ps x → AskedLaw hs ds x
@@ -214,9 +213,10 @@ module _ (hs : List HostBehaviour) (ds : List Behaviour) where
         let ny = subst (Law hs es) (one_more hs es first cs c) (every_use_lawful hs es ms (with_notes ds ps) clocked (cs ++ (c ∷ []))) in
         let st = subst (StandsAt hs es) (one_more hs es first cs c) (every_use_stands hs es ms (with_notes ds ps) clocked (cs ++ (c ∷ []))) in
         record {
-          reached = λ i t h k a xs n z. reached_by y x b.alongside ly lx ny st z.turn z.fall i t h k a xs n z (goes_on y x b.alongside ly lx ny st z.turn z.fall i t h k a xs n z);
+          reached = λ i t h k g n z. reached_by y x b.alongside ly lx ny st z.turn z.fall i t h k g n z (goes_on y x b.alongside ly lx ny st z.turn z.fall i t h k g n z);
           reported = reported y x b.alongside ly lx ny st;
           alone = joined_alone;
+          resting = nothing_at_rest hs ds x (subst (StandsAt hs ds) (sym b.is) (every_use_stands hs ds ms ps clocked b.calls_made));
           once = λ e o i t h z. let q = some_of OutcomeModel (get_or (told_at hs ds x.bus) i None) z in once y x b.alongside ly lx ny st i t h q.0 q.1;
         }
 

@@ -9,7 +9,7 @@ use Rattle.master.specs.declared.mark.Mark.TheVariants.{Quiet, Lost}
 use Rattle.wire.specs.declared.wire.Event.TheVariants.{Stop}
 use Rattle.law.specs.Banks.{Bank, listed, any_true}
 use Rattle.law.specs.Books.{standing_of, Book, book_arm, contests, least}
-use Rattle.law.specs.Buses.{is_at_rest, BusModel, Holds, arm_at, levels_at, told_at}
+use Rattle.law.specs.Buses.{BusModel, Holds, arm_at, levels_at, told_at}
 use Rattle.law.specs.Carrying.{Carried}
 use Rattle.law.specs.Laws.{Call, runs, Use, event_at, marks_of, watched, calls, used, run_on, ticks_of_run, ticks_of_call, ticks_of, armed_now, how_many_true, Point, Loses, Stopped, TickLaw, Law}
 use Rattle.master.specs.Masters.{quiet, lost, VerdictModel, master_step}

@@ -1,15 +1,15 @@
 use Rattle.std.proofs.Common.{◌≡◌, ℕ, List, [], ◌∷◌, None, Ok}
-use Rattle.transfer.specs.Drafts.{TransferModel}
+use Rattle.transfer.specs.Drafts.{TransferModel, transfer_model}
 use Rattle.transfer.specs.Wholes.{one_read}
-use Rattle.device.specs.EventQueues.{event_queue}
-use Rattle.host.specs.ListHosts.{Listed, list_host}
+use Rattle.device.specs.EventQueues.{event_queue, queued}
+use Rattle.host.specs.ListHosts.{Listed, list_host, listed}
 use Rattle.law.specs.Buses.{BusModel, made}
 use Rattle.master.specs.Masters.{new_master}
 use Rattle.master.specs.Scripts.{transfers}
 use Rattle.master.specs.Serving.{Served}
 use Rattle.port.specs.Ports.{PortModel, new_port}
 use Rattle.examples.specs.Setups.{reader, two_queues, event_read, queues}
-use Rattle.parts.proofs.Made.{ok_same}
+use Rattle.parts.proofs.Made.{ok_same, unwrapped}
 use Rattle.examples.proofs.setup.queue_bus.Goals as goal
 
 read_is : (t : TransferModel) (a : ℕ) → Ok t ≡ one_read a 1 → a ≡ 81 → t ≡ event_read
@@ -23,10 +23,11 @@ queues_are u x p q a clock m n one other e reads first second at_81 quick is one
 
 pub returns : goal.returns
 returns c =
-    let t = c.in_ok-read.read in
-    let at_81 = ok_same c.in_ok-events.ensures in (
+    let t = c.unwrap-read.result in
+    let at_81 = ok_same (unwrapped (λ a. a.number) _ _ _ c.new.ensures c.unwrap-events.ensures) in (
       t,
-      read_is _ _ c.in_ok-read.ensures at_81,
+      read_is _ _ (unwrapped transfer_model _ _ _ c.read.ensures c.unwrap-read.ensures) at_81,
       queues_are _ _ _ _ _ _ _ (record { rest = t ∷ []; last = None }) _ _ c.new-3.ensures.made c.new-reader.ensures.made c.new-first.ensures.made c.new-second.ensures.made
-          at_81 (ok_same c.in_ok-new.ensures) (ok_same c.in_ok-list_of.ensures) (ok_same c.in_ok-queue_of.ensures) (ok_same c.in_ok-queue_of-2.ensures),
+          at_81 (ok_same (unwrapped (λ k. (k.low, k.high)) _ _ _ c.new-2.ensures c.unwrap.ensures)) (ok_same (unwrapped listed _ _ _ c.list_of.ensures c.unwrap-2.ensures))
+          (ok_same (unwrapped queued _ _ _ c.queue_of.ensures c.unwrap-3.ensures)) (ok_same (unwrapped queued _ _ _ c.queue_of-2.ensures c.unwrap-4.ensures)),
     )

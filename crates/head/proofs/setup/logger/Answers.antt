@@ -2,8 +2,8 @@ use Rattle.std.proofs.Common.{[], ◌∷◌, refl}
 use Rattle.transfer.specs.Drafts.{transfer_model}
 use Rattle.transfer.specs.Wholes.{one_write, write_and_read}
 use Rattle.host.specs.ListHosts.{list_host, listed}
-use Rattle.head.proofs.Heads.{at, serves}
-use Rattle.parts.proofs.Made.{ok_same, unwrapped}
+use Rattle.head.proofs.Heads.{serves}
+use Rattle.parts.proofs.Made.{ok_same, unwrapped, at}
 use Rattle.head.proofs.setup.logger.Goals as goal
 
 pub returns : goal.returns
