@@ -21,7 +21,7 @@ pub told_last : (u v w : BusModel reader two_queues) (n : ℕ) (a : Result RunMo
 told_last u v w n a last arms runs e is =
     let there : w ≡ (run_at reader two_queues v n (λ k. no_holds two_queues)).1 = ap (λ p. p.1) runs in
     let from : (run_at reader two_queues v n (λ k. no_holds two_queues)).1 ≡ (run_at reader two_queues (all_armed reader two_queues 1 u) n (λ k. no_holds two_queues)).1 =
-        ap (λ x. (run_at reader two_queues x n (λ k. no_holds two_queues)).1) arms in
+    ap (λ x. (run_at reader two_queues x n (λ k. no_holds two_queues)).1) arms in
     is ∙ ap (λ x. x.masters.0.meaning.last) (there ∙ (from ∙ (ran n u ∙ ap (λ k. queues_ran k u) e)))
 
 pub never : NeverHold two_queues

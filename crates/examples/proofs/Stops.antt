@@ -1,5 +1,5 @@
 -- One tick more on the way to the first stop.
-use Rattle.std.proofs.Common.{◌≡◌, ℕ, suc, true, false, cond, None, Some, refl, sym, ap, ◌∙◌}
+use Rattle.std.proofs.Common.{◌≡◌, ℕ, suc, true, false, None, Some, refl, sym, ap, ◌∙◌}
 use Rattle.law.specs.declared.tick.Tick.{Tick}
 use Rattle.law.specs.Buses.{BusModel, no_holds, tick_at}
 use Rattle.law.specs.Laws.{most_ticks_of_turn}

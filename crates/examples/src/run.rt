@@ -131,9 +131,27 @@ fn lines() -> ArrayString<ALL>
     let mut text = ArrayString::new();
     push_example(&mut text, &clocks, "stop over one", three, three_and_high);
     push_example(&mut text, &clocks, "zero over stop", three_and_zero, three);
-    push_example(&mut text, &clocks, "stop over restart", three, three_then_read);
-    push_example(&mut text, &clocks, "restart over one", three_then_read, three_and_high);
-    push_example(&mut text, &clocks, "more over fewer", three_bytes, two_bytes);
+    push_example(
+        &mut text,
+        &clocks,
+        "stop over restart",
+        three,
+        three_then_read,
+    );
+    push_example(
+        &mut text,
+        &clocks,
+        "restart over one",
+        three_then_read,
+        three_and_high,
+    );
+    push_example(
+        &mut text,
+        &clocks,
+        "more over fewer",
+        three_bytes,
+        two_bytes,
+    );
     push_example(&mut text, &clocks, "equal writes", register, register);
     push_joined(&mut text);
     text

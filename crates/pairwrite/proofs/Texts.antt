@@ -1,5 +1,5 @@
 -- The text for what was read.
-use Rattle.std.proofs.Common.{◌≡◌, ℕ, List, [], ◌∷◌, Some, None, refl, sym, subst, slice_index}
+use Rattle.std.proofs.Common.{◌≡◌, ℕ, List, [], ◌∷◌, Some, None, refl, subst, slice_index}
 use Rattle.host.specs.ListHosts.{Listed}
 use Rattle.pairwrite.specs.Inputs.{first_two}
 use Rattle.pairwrite.specs.Runs.{Prints, run_lines}

@@ -1,12 +1,11 @@
 -- A run over devices that never hold prints one text.
-use Rattle.std.proofs.Common.{◌≡◌, ℕ, zero, suc, ◌+◌, ◌-◌, ◌≤◌, ◌++◌, ◌⊎◌, true, false, cond, List, [], refl, sym, ap, subst, ◌∙◌, ⊎_elim, append-nil, append_assoc, arith}
+use Rattle.std.proofs.Common.{◌≡◌, ℕ, zero, suc, ◌+◌, ◌-◌, ◌≤◌, ◌++◌, ◌⊎◌, true, false, List, [], refl, sym, ap, subst, ◌∙◌, ⊎_elim, append-nil, append_assoc, arith}
 use Rattle.std.specs.Fmt.{WritesInCalls}
 use Rattle.std.specs.declared.io.Error.{Error}
 use Rattle.device.specs.Behaviours.{Behaviour}
 use Rattle.host.specs.Behaviours.{HostBehaviour}
 use Rattle.law.proofs.Unheld.{tick_unheld}
-use Rattle.law.specs.Buses.{BusModel, Holds, NeverHold, Answered, no_holds, tick_at, is_at_rest}
-use Rattle.listing.specs.Lines.{lines_of}
+use Rattle.law.specs.Buses.{BusModel, Holds, NeverHold, Answered, no_holds, is_at_rest}
 use Rattle.listing.specs.Listings.{listing_step}
 use Rattle.parts.specs.Arms.{all_armed}
 use Rattle.printing.specs.Outputs.{PutsPart}

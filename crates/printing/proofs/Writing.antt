@@ -1,5 +1,5 @@
 -- Texts written one after the other.
-use Rattle.std.proofs.Common.{◌≡◌, ℕ, List, ◌++◌, [], Ok, Err, Result, OnOk, IfErr, refl, ap, append-nil}
+use Rattle.std.proofs.Common.{ℕ, List, ◌++◌, [], Ok, Err, Result, OnOk, IfErr, ap, append-nil}
 use Rattle.std.proofs.Output.{writes_in_calls_single, writes_in_calls_append}
 use Rattle.std.specs.Fmt.{WritesInCalls}
 use Rattle.std.specs.declared.io.Error.{Error}

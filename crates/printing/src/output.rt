@@ -2,8 +2,9 @@
 ghost use Rattle.std.specs.Prelude.{ℕ, List, OnOk, IfErr};
 ghost use Rattle.std.specs.declared.io.Error.{Error as Failure};
 ghost use Rattle.std.specs.Io.KnownBytes.{Appends};
+ghost use Rattle.printing.specs.Outputs.{AppendsFront};
 
-use std::io::{self, Write};
+use std::io::{self, ErrorKind, Write};
 
 // A trait beside std's `Write`, whose contracts say nothing of a write that fails: under it a program that only fails
 // would be proved. Here a failure is named, and only a write that failed gives one.
@@ -19,13 +20,26 @@ pub trait Output {
         ensures failed { IfErr result (λ e. fails self.old bytes.now e self.new) };
 }
 
-// std says nothing of what a writer holds after a `write_all` that fails.
+// After a write that fails the writer holds a first part of the bytes. By hand: std's `write_all` says nothing of it. A
+// write that is interrupted is tried again.
 impl<W: Write> Output for W {
     ghost takes = { λ s bytes t. Appends (W.Write.contents s) (W.Write.contents t) bytes };
 
-    ghost fails = { λ _ _ _ _. Unit {0} };
+    ghost fails = { λ s bytes _ t. AppendsFront (W.Write.contents s) (W.Write.contents t) bytes };
 
     fn put(&mut self, bytes: &[u8]) -> io::Result<()> {
-        self.write_all(bytes)
+        let mut rest = bytes;
+        for _ in 0..u64::MAX {
+            if rest.is_empty() {
+                return Ok(());
+            }
+            match self.write(rest) {
+                Ok(0) => return Err(ErrorKind::WriteZero.into()),
+                Ok(written) => rest = &rest[written..],
+                Err(error) if error.kind() == ErrorKind::Interrupted => {}
+                Err(error) => return Err(error),
+            }
+        }
+        Err(ErrorKind::Interrupted.into())
     }
 }

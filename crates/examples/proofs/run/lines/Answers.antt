@@ -1,4 +1,4 @@
-use Rattle.std.proofs.Common.{◌≡◌, ℕ, List, [], ◌∷◌, ◌++◌, codes, refl, append_assoc}
+use Rattle.std.proofs.Common.{ℕ, List, [], ◌∷◌, codes, refl, append_assoc}
 use Rattle.std.specs.List.{flat_map}
 use Rattle.transfer.specs.declared.draft.Transfer.{Transfer}
 use Rattle.transfer.specs.Drafts.{transfer_model}

@@ -1,4 +1,4 @@
-use Rattle.std.proofs.Common.{◌≡◌, ◌∙◌, ◌++◌, ℕ, List, [], subst}
+use Rattle.std.proofs.Common.{◌∙◌, ℕ, List, [], subst}
 use Rattle.std.proofs.Output.{writes_in_calls_nil}
 use Rattle.printing.proofs.Writing.{puts_more}
 use Rattle.printing.specs.Outputs.{Puts}

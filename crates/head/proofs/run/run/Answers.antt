@@ -1,4 +1,4 @@
-use Rattle.std.proofs.Common.{◌≡◌, ◌∙◌, ◌++◌, ℕ, List, inl, inr, refl, ap, subst}
+use Rattle.std.proofs.Common.{◌∙◌, ◌++◌, inl, inr, refl, ap, subst}
 use Rattle.exchange.specs.Parts.{bus_model}
 use Rattle.printing.proofs.Writing.{puts_more}
 use Rattle.printing.specs.Outputs.{Puts}

@@ -1,4 +1,4 @@
-use Rattle.std.proofs.Common.{◌≡◌, ℕ, List, [], ◌∷◌, inr, sym, ap, ◌∙◌, subst}
+use Rattle.std.proofs.Common.{◌≡◌, [], ◌∷◌, inr, sym, ap, ◌∙◌, subst}
 use Rattle.std.proofs.Output.{writes_in_calls_nil}
 use Rattle.exchange.specs.Parts.{bus_model}
 use Rattle.device.specs.RegisterFiles.{register_file}

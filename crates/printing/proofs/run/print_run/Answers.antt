@@ -1,4 +1,4 @@
-use Rattle.std.proofs.Common.{◌≡◌, ◌∙◌, ℕ, List, refl, inl, inr, sym, ap, subst, arith, rules}
+use Rattle.std.proofs.Common.{◌∙◌, ℕ, List, refl, inl, inr, ap, subst, arith, rules}
 use Rattle.std.proofs.Output.{writes_in_calls_single, writes_in_calls_append}
 use Rattle.exchange.specs.Parts.{bus_model}
 use Rattle.printing.proofs.Progress.{lines_are, ticked_is, one_more}

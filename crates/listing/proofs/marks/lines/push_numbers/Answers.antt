@@ -35,14 +35,14 @@ loop-number-preserved g c =
     elim c.if-eq.branch [
       | then-eq w ↦
           (let grows : c.if-eq.text.bytes ≡ ((c.loop-number.text.bytes ++ c.args.before.now) ++ (digit_code i ∷ [])) ++ c.args.after.now = rw (w.text-is, w.push_str-then-eq.ensures.bytes, w.push.ensures.ascii w.digit.ensures.ascii, w.push_str.ensures.bytes, w.digit.ensures.value) refl in (
-          one_more _ _ _ _ _ c.args.wanted ms i within (sym (marked c.args.wanted _) ∙ sym w.if-eq.ensures) c.loop-number.invariant.0 grows,
-          further _ (length c.loop-number.text.bytes) _ i _ c.loop-number.invariant.1 (rw grows (simp length-append (omega arith))),
-        ))
+            one_more _ _ _ _ _ c.args.wanted ms i within (sym (marked c.args.wanted _) ∙ sym w.if-eq.ensures) c.loop-number.invariant.0 grows,
+            further _ (length c.loop-number.text.bytes) _ i _ c.loop-number.invariant.1 (rw grows (simp length-append (omega arith))),
+          ))
       | else-eq w ↦
           rw w.text-is (
-          no_more _ _ _ _ c.args.wanted ms i within (sym (marked c.args.wanted _) ∙ sym w.if-eq.ensures) c.loop-number.invariant.0,
-          further _ (length c.loop-number.text.bytes) _ i _ c.loop-number.invariant.1 (omega arith),
-        )
+            no_more _ _ _ _ c.args.wanted ms i within (sym (marked c.args.wanted _) ∙ sym w.if-eq.ensures) c.loop-number.invariant.0,
+            further _ (length c.loop-number.text.bytes) _ i _ c.loop-number.invariant.1 (omega arith),
+          )
     ]
 
 pub returns-clause-text : goal.returns-clause-text
