@@ -1,5 +1,5 @@
 // Banks of each size. A bank is one part and the rest, so each size is a type of its own.
-ghost use Rattle.std.specs.Prelude.{◌≡◌, ◌+◌, ◌*◌, ◌≤◌, IsOkAnd};
+ghost use Rattle.std.specs.Prelude.{◌≡◌, ◌+◌, ◌*◌, ◌≤◌, IsOk, IsOkAnd, IfOk};
 ghost use Rattle.growth.specs.Sizes.{WritesQuick, WritesSlow, file_at};
 ghost use Rattle.master.specs.Serving.{served};
 ghost use Rattle.port.specs.Ports.{port_model};
@@ -44,7 +44,8 @@ fn slow() -> Result<Master<PollHost>, Refusal>
 }
 
 pub fn file(address: u32) -> Result<Port<RegisterFile>, Refusal>
-    ensures { 8 ≤ address → address ≤ 119 → IsOkAnd result (λ p. port_model ⟦<RegisterFile as Device>⟧ p ≡ file_at address) }
+    ensures made { IfOk result (λ p. port_model ⟦<RegisterFile as Device>⟧ p ≡ file_at address) }
+    ensures fits { 8 ≤ address → address ≤ 119 → IsOk result }
 {
     Ok(Port::new(Address::new(address)?, RegisterFile::new()))
 }
@@ -58,7 +59,8 @@ pub fn two<B: Drop>(rest: B) -> Result<Two<B>, Refusal>
 
 // Four files, at the addresses of this block of four; a bus has at most 16 ports, so there are four blocks.
 pub fn four<B: Drop>(block: u8, rest: B) -> Result<Four<B>, Refusal>
-    ensures { block ≤ 3 → IsOkAnd result (λ b. (port_model ⟦<RegisterFile as Device>⟧ b.0 ≡ file_at (80 + 4 * block)) × (port_model ⟦<RegisterFile as Device>⟧ b.1.0 ≡ file_at (81 + 4 * block)) × (port_model ⟦<RegisterFile as Device>⟧ b.1.1.0 ≡ file_at (82 + 4 * block)) × (port_model ⟦<RegisterFile as Device>⟧ b.1.1.1.0 ≡ file_at (83 + 4 * block)) × (b.1.1.1.1 ≡ rest)) }
+    ensures made { IfOk result (λ b. (port_model ⟦<RegisterFile as Device>⟧ b.0 ≡ file_at (80 + 4 * block)) × (port_model ⟦<RegisterFile as Device>⟧ b.1.0 ≡ file_at (81 + 4 * block)) × (port_model ⟦<RegisterFile as Device>⟧ b.1.1.0 ≡ file_at (82 + 4 * block)) × (port_model ⟦<RegisterFile as Device>⟧ b.1.1.1.0 ≡ file_at (83 + 4 * block)) × (b.1.1.1.1 ≡ rest)) }
+    ensures fits { block ≤ 3 → IsOk result }
 {
     let address = FIRST + 4 * u32::from(block);
     let first = file(address)?;
