@@ -35,7 +35,8 @@ fn push_told<const N: usize>(text: &mut ArrayString<N>, number: u64, last: Optio
 
 fn push_registers<const N: usize>(text: &mut ArrayString<N>, registers: &[u8; 16])
     requires { length text.old.bytes + 59 ≤ N }
-    ensures { text.new.bytes ≡ text.old.bytes ++ registers_line registers.now }
+    ensures line { text.new.bytes ≡ text.old.bytes ++ registers_line registers.now }
+    ensures short { length text.new.bytes ≤ length text.old.bytes + 59 }
 {
     text.push_str("registers:");
     push_bytes(text, registers);

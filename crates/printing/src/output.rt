@@ -6,8 +6,8 @@ ghost use Rattle.printing.specs.Outputs.{AppendsFront};
 
 use std::io::{self, ErrorKind, Write};
 
-// A trait beside std's `Write`, whose contracts say nothing of a write that fails: under it a program that only fails
-// would be proved. Here a failure is named, and only a write that failed gives one.
+// A trait beside std's `Write`, whose contracts do not say when a write fails: under them a program that only fails would
+// be proved. Here a failure is named, and only a write that failed gives one.
 pub trait Output {
     // The output before a write that succeeds, the bytes, and the output after it.
     ghost takes: { Self → List ℕ → Self → Type 0 };
