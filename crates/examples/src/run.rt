@@ -8,6 +8,7 @@ ghost use Rattle.examples.specs.Runs.{first_stop, told_at, clocks_text, example_
 use crate::setup::{all_clocks, queue_bus};
 use exchange::{End, Event, Mark, Tick};
 use host::ListHost;
+use law::restart_over_one;
 use listing::push_numbers;
 use parts::{Clocks, PairBus, arm_all, list_of, pair_bus, ticks_of_turns};
 use printing::Output;
@@ -122,9 +123,8 @@ fn lines() -> ArrayString<ALL>
     let clocks = all_clocks();
     let registers = Address::new(REGISTERS).unwrap();
     let three = Transfer::write(registers, &[0x03]).unwrap();
-    let three_and_high = Transfer::write(registers, &[0x03, 0x80]).unwrap();
+    let (three_then_read, three_and_high) = restart_over_one().unwrap();
     let three_and_zero = Transfer::write(registers, &[0x03, 0x00]).unwrap();
-    let three_then_read = Transfer::write_then_read(registers, &[0x03], 1).unwrap();
     let register = Transfer::write(registers, &[0x03, 0x12]).unwrap();
     let three_bytes = Transfer::read(registers, 3).unwrap();
     let two_bytes = Transfer::read(registers, 2).unwrap();
