@@ -3,6 +3,8 @@
 
 mod counter;
 mod once;
+#[cfg(test)]
+mod tests;
 
 pub use counter::Counter;
 pub use once::Once;
