@@ -37,3 +37,21 @@ pub fn run<I: Input, O: Output>(input: &mut I, out: &mut O) -> io::Result<()>
     let _ = bus.close();
     ended
 }
+
+#[cfg(test)]
+mod tests {
+    use super::run;
+
+    // No contract says that a read and a write of std succeed.
+    #[test]
+    fn prints_of_two_bytes_and_nothing_of_one(rt: HostRuntime) {
+        let mut held = Vec::new(rt.alloc());
+        let mut one = &b"\x12"[..];
+        assert!(rt; run(&mut one, &mut held).is_ok());
+        assert!(rt; held.is_empty());
+        let mut more = &b"\x12\x10\x00"[..];
+        assert!(rt; run(&mut more, &mut held).is_ok());
+        assert!(rt; held.starts_with(b"2 S\n49 A0 A\n94 03 A\n127 L 0\n"));
+        assert_eq!(rt; more.len(), 1);
+    }
+}

@@ -43,3 +43,18 @@ impl<W: Write> Output for W {
         Err(ErrorKind::Interrupted.into())
     }
 }
+
+#[cfg(test)]
+mod tests {
+    use super::Output;
+
+    // No contract says that a write of std succeeds.
+    #[test]
+    fn puts_one_text_after_the_other(rt: HostRuntime) {
+        let mut held = Vec::new(rt.alloc());
+        assert!(rt; held.put(b"2 S\n").is_ok());
+        assert!(rt; held.put(b"9 P\n").is_ok());
+        assert!(rt; held.starts_with(b"2 S\n9 P\n"));
+        assert_eq!(rt; held.len(), 8);
+    }
+}
