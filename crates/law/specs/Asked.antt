@@ -111,7 +111,7 @@ handed (finish ∷ ss) = handed ss
 
 -- how often a port with address a is called before leg k
 abbrev pub called_before : TransferModel → ℕ → ℕ → ℕ
-called_before t k a = cond (nat_lt 0 k && answers_to t.first.address a) 1 0
+called_before t k a = cond (nat_lt 0 k && answers_to a t.first.address) 1 0
 
 -- the bytes that each port's device handed over in its call n, counted from 0, at address a
 abbrev pub handed_over : ℕ → ℕ → List ℕ → List (List Step) → List (List ℕ)

@@ -1,15 +1,15 @@
 -- What a program reads. Assumes nothing.
 use Rattle.std.specs.Prelude.{ℕ, ◌⊎◌, List, [], ◌∷◌, Option, Some, None}
 use Rattle.std.specs.declared.io.Error.{Error}
-use Rattle.std.specs.Io.KnownBytes.{Consumes, IsAtEnd}
+use Rattle.std.specs.Io.KnownBytes.{Consumes, IsAtEnd, Keeps}
 
--- known bytes lose the byte that is given; none is given at their end
+-- known bytes lose the byte that is given; none is given at their end, and they stay
 abbrev pub Gives : Option (List ℕ) → Option ℕ → Option (List ℕ) → Type 0
 Gives old (Some byte) new = Consumes old new (byte ∷ [])
-Gives old None new = IsAtEnd old
+Gives old None new = IsAtEnd old × Keeps old new
 
 module _ {R : Type 0} (gives : R → Option ℕ → R → Type 0) where
-  -- the input is read to its end, or as far as its second byte
+  -- these bytes are read, as far as the second, or all that there are before the input's end
   abbrev pub Reads : R → List ℕ → R → Type 0
   Reads s [] t = gives s None t
   Reads s (x ∷ []) t = (u : R) × gives s (Some x) u × gives u None t

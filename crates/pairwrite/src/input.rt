@@ -6,8 +6,8 @@ ghost use Rattle.pairwrite.specs.Inputs.{Gives};
 
 use std::io::{self, ErrorKind, Read};
 
-// Byte by byte. A trait beside std's `Read`, whose contracts do not say when a read fails: here a failure is named, and only
-// a read that failed gives one.
+// Byte by byte. A trait beside std's `Read`, whose contracts do not say when a read fails: here a failure is named, so that a
+// function over any input fails only where `next` does.
 pub trait Input {
     // The input before, the byte that it gives or none at its end, and the input after.
     ghost gives: { Self → Option ℕ → Self → Type 0 };
