@@ -7,7 +7,7 @@ ghost use Rattle.printing.specs.Outputs.{AppendsFront};
 use std::io::{self, ErrorKind, Write};
 
 // A trait beside std's `Write`, whose contracts do not say when a write fails: under them a program that only fails would
-// be proved. Here a failure is named, and only a write that failed gives one.
+// be proved. Here a failure is named, so that a function over any output fails only where `put` does.
 pub trait Output {
     // The output before a write that succeeds, the bytes, and the output after it.
     ghost takes: { Self → List ℕ → Self → Type 0 };

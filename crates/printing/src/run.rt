@@ -13,7 +13,7 @@ use parts::arm_all;
 use std::io;
 
 // Ticks until the bus is at rest, `most_ticks` times at most, and prints what each tick shows. The first `masters`
-// masters are armed at the beginning and after each tick. After a fault the bus stands, its masters armed, after the
+// masters are armed at the beginning and after each tick. After a failed write the bus stands, its masters armed, after the
 // tick that was not printed. A line begins with its tick in decimal.
 pub fn print_run<M: Masters, P: Ports, O: Output>(
     out: &mut O,
