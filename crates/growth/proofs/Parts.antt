@@ -1,6 +1,5 @@
 -- Masters, ports and sizes put together from what the code makes.
-use Rattle.std.proofs.Common.{◌≡◌, ℕ, suc, true, List, Some, Ok, Option, Result, sym, ap, ◌∙◌, subst}
-use Rattle.transfer.specs.declared.refusal.Refusal.{Refusal}
+use Rattle.std.proofs.Common.{◌≡◌, ℕ, suc, true, List, Some, Option, sym, ap, ◌∙◌, subst}
 use Rattle.device.specs.RegisterFiles.{register_file}
 use Rattle.device.specs.declared.register_file.RegisterFile.{RegisterFile}
 use Rattle.device.specs.contracts.register_file.steps.RegisterFileDevice.TheImpl.{ghosts}
@@ -39,18 +38,18 @@ pub four_more : {B : Type 0} (n a : ℕ) (stand : B → Bank PortModel (devices 
     stand_four n stand b ≡ files a (suc (suc (suc (suc n))))
 four_more n a stand b rest at after = four_files a n _ _ _ _ _ at.0 at.1 at.2 at.3 (ap stand at.4 ∙ after)
 
-module _ (hs : List HostBehaviour) (b : Bank Served hs) (masters ports ticks : ℕ) (r : Result (Option ℕ) Refusal) where
+module _ (hs : List HostBehaviour) (b : Bank Served hs) (masters ports ticks : ℕ) (r : Option ℕ) where
   -- a bus with n ports
   pub with_so_many : (n : ℕ) (u : BusModel hs (devices n)) (p : Bank PortModel (devices n)) (count : ℕ) → is_ports n ≡ true → ports ≡ n →
-      u ≡ made hs (devices n) b p → p ≡ files 80 n → (v : BusModel hs (devices n)) × Worked hs (devices n) masters ticks u count v → r ≡ Ok (Some count) → MeasuredWith hs b masters ports ticks r
+      u ≡ made hs (devices n) b p → p ≡ files 80 n → (v : BusModel hs (devices n)) × Worked hs (devices n) masters ticks u count v → r ≡ Some count → MeasuredWith hs b masters ports ticks r
   with_so_many n u p count size e bus ports_are works is = (
     (λ no. let z = sym (ap is_ports e ∙ size) ∙ no in cc),
-    (λ yes. subst (λ k. (v : BusModel hs (devices k)) × (count : ℕ) × Worked hs (devices k) masters ticks (made hs (devices k) b (files 80 k)) count v × (r ≡ Ok (Some count))) (sym e)
+    (λ yes. subst (λ k. (v : BusModel hs (devices k)) × (count : ℕ) × Worked hs (devices k) masters ticks (made hs (devices k) b (files 80 k)) count v × (r ≡ Some count)) (sym e)
         (works.0, count, subst (λ w. Worked hs (devices n) masters ticks w count works.0) (bus ∙ ap (λ p. made hs (devices n) b p) ports_are) works.1, is)),
   )
 
 -- n masters
-pub so_many : (masters ports ticks n : ℕ) (r : Result (Option ℕ) Refusal) (b : Bank Served (hosts n)) → is_masters n ≡ true → masters ≡ n → AtOdds true n b →
+pub so_many : (masters ports ticks n : ℕ) (r : Option ℕ) (b : Bank Served (hosts n)) → is_masters n ≡ true → masters ≡ n → AtOdds true n b →
     MeasuredWith (hosts n) b masters ports ticks r → Measured masters ports ticks r
 so_many masters ports ticks n r b size e odds measured = (
   (λ no. let z = sym (ap is_masters e ∙ size) ∙ no in cc),

@@ -1,6 +1,5 @@
 -- The buses that are measured: their sizes, and their parts before a master is armed. Assumes nothing.
-use Rattle.std.specs.Prelude.{◌≡◌, ℕ, zero, suc, Bool, true, false, ◌||◌, List, replicate, None, Some, Ok, Option, Result, ◌==◌}
-use Rattle.transfer.specs.declared.refusal.Refusal.{Refusal}
+use Rattle.std.specs.Prelude.{◌≡◌, ℕ, zero, suc, Bool, true, false, ◌||◌, List, replicate, None, Some, Option, ◌==◌}
 use Rattle.device.specs.Behaviours.{Behaviour}
 use Rattle.device.specs.RegisterFiles.{register_file, new_registers}
 use Rattle.host.specs.Behaviours.{HostBehaviour}
@@ -46,13 +45,13 @@ files address zero = tt
 files address (suc n) = (file_at address, files (suc address) n)
 
 -- the outcomes that so many ticks told, with these masters and so many register files; none where there is no bus of this size
-abbrev pub MeasuredWith : (hs : List HostBehaviour) → Bank Served hs → ℕ → ℕ → ℕ → Result (Option ℕ) Refusal → Type 0
+abbrev pub MeasuredWith : (hs : List HostBehaviour) → Bank Served hs → ℕ → ℕ → ℕ → Option ℕ → Type 0
 MeasuredWith hs b masters ports ticks r =
-    (is_ports ports ≡ false → r ≡ Ok None) ×
+    (is_ports ports ≡ false → r ≡ None) ×
     (is_ports ports ≡ true → (v : BusModel hs (devices ports)) × (count : ℕ) ×
-    Worked hs (devices ports) masters ticks (made hs (devices ports) b (files 80 ports)) count v × (r ≡ Ok (Some count)))
+    Worked hs (devices ports) masters ticks (made hs (devices ports) b (files 80 ports)) count v × (r ≡ Some count))
 
-abbrev pub Measured : ℕ → ℕ → ℕ → Result (Option ℕ) Refusal → Type 0
+abbrev pub Measured : ℕ → ℕ → ℕ → Option ℕ → Type 0
 Measured masters ports ticks r =
-    (is_masters masters ≡ false → r ≡ Ok None) ×
+    (is_masters masters ≡ false → r ≡ None) ×
     (is_masters masters ≡ true → (b : Bank Served (hosts masters)) × AtOdds true masters b × MeasuredWith (hosts masters) b masters ports ticks r)

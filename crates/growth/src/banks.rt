@@ -1,5 +1,5 @@
 // Banks of each size. A bank is one part and the rest, so each size is a type of its own.
-ghost use Rattle.std.specs.Prelude.{◌≡◌, ◌+◌, ◌*◌, ◌≤◌, IsOk, IsOkAnd, IfOk};
+ghost use Rattle.std.specs.Prelude.{◌≡◌, ◌+◌, ◌*◌, ◌≤◌, IsOk, IfOk};
 ghost use Rattle.growth.specs.Sizes.{WritesQuick, WritesSlow, file_at};
 ghost use Rattle.master.specs.Serving.{served};
 ghost use Rattle.port.specs.Ports.{port_model};
@@ -25,22 +25,23 @@ pub type Four<B> = (
 // All masters write to the first register file.
 pub const FIRST: u32 = 0x50;
 
-fn master(clock: ClockPair, byte: u8) -> Result<Master<PollHost>, Refusal>
-    ensures { IsOkAnd result (λ m. WritesForEver clock.low clock.high 80 byte (served ⟦<PollHost as Host>⟧ m)) }
+fn master(clock: ClockPair, byte: u8) -> Master<PollHost>
+    ensures { WritesForEver clock.low clock.high 80 byte (served ⟦<PollHost as Host>⟧ result) }
 {
-    Ok(Master::new(clock, writer(Address::new(FIRST)?, byte)?))
+    let first = Address::new(FIRST).unwrap();
+    Master::new(clock, writer(first, byte).unwrap())
 }
 
-pub fn quick() -> Result<Master<PollHost>, Refusal>
-    ensures { IsOkAnd result (λ m. WritesQuick (served ⟦<PollHost as Host>⟧ m)) }
+pub fn quick() -> Master<PollHost>
+    ensures { WritesQuick (served ⟦<PollHost as Host>⟧ result) }
 {
-    master(ClockPair::new(1, 1)?, 0x12)
+    master(ClockPair::new(1, 1).unwrap(), 0x12)
 }
 
-fn slow() -> Result<Master<PollHost>, Refusal>
-    ensures { IsOkAnd result (λ m. WritesSlow (served ⟦<PollHost as Host>⟧ m)) }
+fn slow() -> Master<PollHost>
+    ensures { WritesSlow (served ⟦<PollHost as Host>⟧ result) }
 {
-    master(ClockPair::new(2, 1)?, 0x10)
+    master(ClockPair::new(2, 1).unwrap(), 0x10)
 }
 
 pub fn file(address: u32) -> Result<Port<RegisterFile>, Refusal>
@@ -51,10 +52,10 @@ pub fn file(address: u32) -> Result<Port<RegisterFile>, Refusal>
 }
 
 // Two masters at odds.
-pub fn two<B: Drop>(rest: B) -> Result<Two<B>, Refusal>
-    ensures { IsOkAnd result (λ b. WritesQuick (served ⟦<PollHost as Host>⟧ b.0) × WritesSlow (served ⟦<PollHost as Host>⟧ b.1.0) × (b.1.1 ≡ rest)) }
+pub fn two<B: Drop>(rest: B) -> Two<B>
+    ensures { WritesQuick (served ⟦<PollHost as Host>⟧ result.0) × WritesSlow (served ⟦<PollHost as Host>⟧ result.1.0) × (result.1.1 ≡ rest) }
 {
-    Ok((quick()?, (slow()?, rest)))
+    (quick(), (slow(), rest))
 }
 
 // Four files, at the addresses of this block of four; a bus has at most 16 ports, so there are four blocks.

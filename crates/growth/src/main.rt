@@ -20,9 +20,8 @@ fn main(rt: HostRuntime) -> anyhow::Result<()> {
         ports,
     };
     match sizes::measure(work) {
-        Ok(Some(count)) => println!(rt; "{ticks} ticks, {count} outcomes")?,
-        Ok(None) => println!(rt; "no bus of this size")?,
-        Err(refusal) => println!(rt; "refused with {}", refusal.number())?,
+        Some(count) => println!(rt; "{ticks} ticks, {count} outcomes")?,
+        None => println!(rt; "no bus of this size")?,
     }
     Ok(())
 }

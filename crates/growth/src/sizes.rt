@@ -7,7 +7,6 @@ ghost use Rattle.growth.specs.Sizes.{MeasuredWith, Measured};
 
 use crate::banks::{FIRST, file, four, quick, two};
 use exchange::{Bus, End, Masters, Ports};
-use transfer::Refusal;
 use workload::count_outcomes;
 
 #[derive(Clone, Copy)]
@@ -26,32 +25,35 @@ fn count<M: Masters + Drop, P: Ports + Drop>(work: Work, mut bus: Bus<M, P>) -> 
 }
 
 // A match on the number, here and below, and no table: each size of a bank is a type of its own.
-fn with_ports<M: Masters + Drop>(work: Work, masters: M) -> Result<Option<u64>, Refusal>
+fn with_ports<M: Masters + Drop>(work: Work, masters: M) -> Option<u64>
     requires some_master { 1 ≤ length M.Masters.hosts }
     requires few_masters { length M.Masters.hosts ≤ 8 }
     ensures { MeasuredWith M.Masters.hosts (M.Masters.stand masters) work.masters work.ports work.ticks result }
 {
     let count = match work.ports {
-        1 => count(work, Bus::new(masters, (file(FIRST)?, End))),
-        4 => count(work, Bus::new(masters, four(0, End)?)),
+        1 => count(work, Bus::new(masters, (file(FIRST).unwrap(), End))),
+        4 => count(work, Bus::new(masters, four(0, End).unwrap())),
         16 => {
-            let files = four(0, four(1, four(2, four(3, End)?)?)?)?;
+            let last = four(3, End).unwrap();
+            let third = four(2, last).unwrap();
+            let second = four(1, third).unwrap();
+            let files = four(0, second).unwrap();
             count(work, Bus::new(masters, files))
         }
-        _ => return Ok(None),
+        _ => return None,
     };
-    Ok(Some(count))
+    Some(count)
 }
 
 // None where there is no bus of this size.
-pub fn measure(work: Work) -> Result<Option<u64>, Refusal>
+pub fn measure(work: Work) -> Option<u64>
     ensures { Measured work.masters work.ports work.ticks result }
 {
     match work.masters {
-        1 => with_ports(work, (quick()?, End)),
-        2 => with_ports(work, two(End)?),
-        4 => with_ports(work, two(two(End)?)?),
-        8 => with_ports(work, two(two(two(two(End)?)?)?)?),
-        _ => Ok(None),
+        1 => with_ports(work, (quick(), End)),
+        2 => with_ports(work, two(End)),
+        4 => with_ports(work, two(two(End))),
+        8 => with_ports(work, two(two(two(two(End))))),
+        _ => None,
     }
 }

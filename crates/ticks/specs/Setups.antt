@@ -1,6 +1,5 @@
 -- The bus that is ticked, before a master is armed. Assumes nothing.
-use Rattle.std.specs.Prelude.{◌≡◌, ℕ, List, [], ◌∷◌, Ok, Result}
-use Rattle.transfer.specs.declared.refusal.Refusal.{Refusal}
+use Rattle.std.specs.Prelude.{◌≡◌, ℕ, List, [], ◌∷◌}
 use Rattle.device.specs.Behaviours.{Behaviour}
 use Rattle.device.specs.RegisterFiles.{register_file, new_registers}
 use Rattle.host.specs.Behaviours.{HostBehaviour}
@@ -22,5 +21,5 @@ AtOdds u = (x : Served poll_host) × (y : Served poll_host) × WritesForEver 1 1
     (u ≡ made hosts devices (x, (y, tt)) (new_port register_file 80 new_registers, tt))
 
 -- the outcomes that so many ticks of such a bus told
-abbrev pub Measured : ℕ → Result ℕ Refusal → Type 0
-Measured ticks r = (u : BusModel hosts devices) × (v : BusModel hosts devices) × (count : ℕ) × AtOdds u × Worked hosts devices 2 ticks u count v × (r ≡ Ok count)
+abbrev pub Measured : ℕ → ℕ → Type 0
+Measured ticks count = (u : BusModel hosts devices) × (v : BusModel hosts devices) × AtOdds u × Worked hosts devices 2 ticks u count v

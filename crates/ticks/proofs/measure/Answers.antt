@@ -1,11 +1,11 @@
 use Rattle.std.proofs.Common.{◌≡◌, ℕ, refl, subst}
 use Rattle.device.specs.RegisterFiles.{register_file, new_registers}
-use Rattle.host.specs.PollHosts.{poll_host}
+use Rattle.host.specs.PollHosts.{poll_host, polled}
 use Rattle.law.specs.Buses.{BusModel, made}
 use Rattle.master.specs.Serving.{Served}
 use Rattle.port.specs.Ports.{new_port}
 use Rattle.workload.specs.Works.{WritesForEver}
-use Rattle.parts.proofs.Made.{ok_same}
+use Rattle.parts.proofs.Made.{ok_same, unwrapped}
 use Rattle.workload.proofs.Writers.{writes_for_ever}
 use Rattle.ticks.specs.Setups.{hosts, devices, AtOdds}
 use Rattle.ticks.proofs.measure.Goals as goal
@@ -23,14 +23,15 @@ at_odds u a j k x y e at_80 quick slow first second = (
 
 pub returns : goal.returns
 returns c =
-    let address = ok_same c.in_ok-registers.ensures in
-    let first = c.in_ok-first.ensures in
-    let second = c.in_ok-second.ensures in (
+    let address = ok_same (unwrapped (λ a. a.number) _ _ _ c.new.ensures c.unwrap-registers.ensures) in
+    let first = c.writer.ensures in
+    let second = c.writer-2.ensures in (
       _,
       _,
-      _,
-      at_odds _ _ _ _ _ _ c.pair_bus-bus.ensures address (ok_same c.in_ok-new.ensures) (ok_same c.in_ok-new-2.ensures)
-          (writes_for_ever _ first.0 _ _ _ _ 80 18 refl first.1 address first.2) (writes_for_ever _ second.0 _ _ _ _ 80 16 refl second.1 address second.2),
+      at_odds _ _ _ _ _ _ c.pair_bus-bus.ensures address
+          (ok_same (unwrapped (λ k. (k.low, k.high)) _ _ _ c.new-2.ensures c.unwrap.ensures))
+          (ok_same (unwrapped (λ k. (k.low, k.high)) _ _ _ c.new-3.ensures c.unwrap-2.ensures))
+          (writes_for_ever _ first.0 _ _ _ _ 80 18 refl first.1 address (unwrapped polled _ _ _ first.2 c.unwrap-first.ensures))
+          (writes_for_ever _ second.0 _ _ _ _ 80 16 refl second.1 address (unwrapped polled _ _ _ second.2 c.unwrap-second.ensures)),
       c.count_outcomes-count.ensures,
-      refl,
     )

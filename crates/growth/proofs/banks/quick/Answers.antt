@@ -1,10 +1,9 @@
 use Rattle.std.proofs.Common.{ℕ, subst}
-use Rattle.std.specs.Result.{IsOkAnd}
 use Rattle.host.specs.contracts.poll_host.PollHostHost.TheImpl.{ghosts}
 use Rattle.master.specs.Serving.{served}
-use Rattle.parts.proofs.Made.{ok_same}
+use Rattle.parts.proofs.Made.{ok_same, unwrapped}
 use Rattle.workload.specs.Works.{WritesForEver}
 use Rattle.growth.proofs.banks.quick.Goals as goal
 
 pub returns : goal.returns
-returns c = subst (λ (counts : ℕ × ℕ). IsOkAnd c.master.result (λ m. WritesForEver counts.0 counts.1 80 18 (served ghosts m))) (ok_same c.in_ok-new.ensures) c.master.ensures
+returns c = subst (λ (counts : ℕ × ℕ). WritesForEver counts.0 counts.1 80 18 (served ghosts c.master.result)) (ok_same (unwrapped (λ k. (k.low, k.high)) _ _ _ c.new.ensures c.unwrap.ensures)) c.master.ensures
