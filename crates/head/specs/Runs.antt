@@ -1,11 +1,11 @@
 -- What the program prints. Assumes nothing.
-use Rattle.std.specs.Prelude.{◌≡◌, ℕ, ◌*◌, ◌⊎◌, List, [], ◌++◌, codes, decimal, Option, Some, None, Err, Result}
+use Rattle.std.specs.Prelude.{ℕ, ◌*◌, List, [], ◌++◌, codes, decimal, Option, Some, None, Result}
 use Rattle.std.specs.declared.io.Error.{Error}
 use Rattle.transfer.specs.Outcomes.{OutcomeModel}
 use Rattle.law.specs.Buses.{BusModel}
 use Rattle.law.specs.Laws.{most_ticks_of_turn}
 use Rattle.printing.specs.Outputs.{Puts}
-use Rattle.printing.specs.Runs.{Listened, RunsTo, PrintsPart}
+use Rattle.printing.specs.Runs.{Listened, OnlyRun}
 use Rattle.text.specs.Outcomes.{bytes_text, outcome_text}
 use Rattle.head.specs.Setups.{head_hosts, head_devices, IsHead}
 
@@ -27,8 +27,9 @@ abbrev pub most_ticks : ℕ
 most_ticks = 16 * most_ticks_of_turn
 
 module _ {W : Type 0} (takes : W → List ℕ → W → Type 0) (fails : W → List ℕ → Error → W → Type 0) where
-  -- a write fails in the run; or the run is whole, and its lines and those of its end are written, or a first part of them
+  -- the bus has one run, whatever its devices answer, and the lines of it and of its end are written, or a first part of them
+  -- where a write fails
   abbrev pub PrintsHead : W → Result (Unit {0}) Error → W → Type 0
-  PrintsHead out r after = (u : BusModel head_hosts head_devices) × IsHead u × (
-      ((e : Error) × (v : BusModel head_hosts head_devices) × (r ≡ Err e) × PrintsPart head_hosts head_devices takes fails 3 most_ticks u v out after e)
-      ⊎ ((text : List ℕ) × (end : Listened head_hosts head_devices) × RunsTo head_hosts head_devices 3 most_ticks u text end × Puts takes fails (text ++ end_text end.bus) out r after))
+  PrintsHead out r after =
+      (u : BusModel head_hosts head_devices) × IsHead u × (text : List ℕ) × (end : Listened head_hosts head_devices)
+      × OnlyRun head_hosts head_devices 3 most_ticks u text end × Puts takes fails (text ++ end_text end.bus) out r after

@@ -1,3 +1,6 @@
+pub mod Kept
+pub mod OneText
 pub mod Progress
+pub mod SomeRun
 pub mod Unheld
 pub mod Writing

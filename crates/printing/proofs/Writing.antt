@@ -1,9 +1,9 @@
 -- Texts written one after the other.
-use Rattle.std.proofs.Common.{ℕ, List, ◌++◌, [], Ok, Err, Result, OnOk, IfErr, ap, append-nil}
+use Rattle.std.proofs.Common.{ℕ, List, ◌++◌, [], Ok, Err, Result, OnOk, IfErr, ap, append-nil, append_assoc}
 use Rattle.std.proofs.Output.{writes_in_calls_single, writes_in_calls_append}
 use Rattle.std.specs.Fmt.{WritesInCalls}
 use Rattle.std.specs.declared.io.Error.{Error}
-use Rattle.printing.specs.Outputs.{Puts}
+use Rattle.printing.specs.Outputs.{Puts, PutsPart}
 
 module _ {W : Type 0} (takes : W → List ℕ → W → Type 0) (fails : W → List ℕ → Error → W → Type 0) where
   -- what is put after a text that is written
@@ -18,4 +18,16 @@ module _ {W : Type 0} (takes : W → List ℕ → W → Type 0) (fails : W → L
     whole = ap (λ x. text ++ x) (append-nil more);
     written = written;
     failed = failed;
+  }
+
+  -- of a longer text the same first part is written
+  pub puts_less : (text more : List ℕ) (out after : W) (e : Error) → PutsPart takes fails text out after e → PutsPart takes fails (text ++ more) out after e
+  puts_less text more out after e p = record {
+    done = p.done;
+    failing = p.failing;
+    rest = p.rest ++ more;
+    between = p.between;
+    whole = rw (← p.whole) (simp append_assoc);
+    written = p.written;
+    failed = p.failed;
   }

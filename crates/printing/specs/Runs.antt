@@ -1,5 +1,5 @@
 -- A run of a bus whose masters are armed before each of its ticks, and what is printed of it. Assumes nothing.
-use Rattle.std.specs.Prelude.{◌≡◌, ℕ, zero, suc, ◌<◌, ◌≤◌, ◌⊎◌, true, false, cond, List, [], ◌++◌, decimal}
+use Rattle.std.specs.Prelude.{◌≡◌, ℕ, zero, suc, ◌<◌, ◌≤◌, ◌⊎◌, true, false, cond, List, [], ◌∷◌, ◌++◌, decimal}
 use Rattle.std.specs.Fmt.{WritesInCalls}
 use Rattle.std.specs.declared.io.Error.{Error}
 use Rattle.device.specs.Behaviours.{Behaviour}
@@ -9,6 +9,11 @@ use Rattle.listing.specs.declared.listing.Listing.{Listing}
 use Rattle.listing.specs.Lines.{lines_of}
 use Rattle.listing.specs.Listings.{new_listing, listing_step}
 use Rattle.parts.specs.Arms.{all_armed}
+
+-- no device may give two different answers to hold as it stands
+abbrev pub OneHold : List Behaviour → Type 0
+OneHold [] = Unit {0}
+OneHold (d ∷ ds) = ((m : d.Meaning) (h k : ℕ) → d.holds m h → d.holds m k → h ≡ k) × OneHold ds
 
 module _ (hs : List HostBehaviour) (ds : List Behaviour) where
   -- a bus, and the listing of its ticks so far
@@ -49,6 +54,11 @@ module _ (hs : List HostBehaviour) (ds : List Behaviour) where
     pub bounded : ticks ≤ most
     pub ran : Ran masters ticks u text end
     pub over : (ticks ≡ most) ⊎ (is_at_rest hs ds end.bus ≡ true)
+
+  -- the one run from u: whatever the devices answer, there is no other
+  pub record OnlyRun (masters most : ℕ) (u : BusModel hs ds) (text : List ℕ) (end : Listened) : Type 0 where
+    pub run : RunsTo masters most u text end
+    pub only : (other : List ℕ) (last : Listened) → RunsTo masters most u other last → (other ≡ text) × (last ≡ end)
 
   module _ {W : Type 0} (takes : W → List ℕ → W → Type 0) where
     -- a run from u to v of which all lines are written

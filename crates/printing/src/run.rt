@@ -1,9 +1,9 @@
 // Ticks and their lines.
-ghost use Rattle.std.specs.Prelude.{ℕ, ◌<◌, ◌^◌, decimal, OnOk, IfErr};
+ghost use Rattle.std.specs.Prelude.{ℕ, ◌<◌, ◌^◌, List, decimal, OnOk, IfErr};
 ghost use Rattle.exchange.specs.Parts.{bus_model};
 ghost use Rattle.law.specs.Buses.{NeverHold};
 ghost use Rattle.printing.specs.Outputs.{Puts};
-ghost use Rattle.printing.specs.Runs.{PrintsAll, PrintsPart, setting_out, unheld_lines};
+ghost use Rattle.printing.specs.Runs.{OneHold, Listened, RunsTo, PrintsAll, PrintsPart, setting_out, unheld_lines};
 ghost use Rattle.text.specs.Decimals.{Decimal};
 
 use crate::output::Output;
@@ -24,6 +24,7 @@ pub fn print_run<M: Masters, P: Ports, O: Output>(
     ensures all { OnOk result (PrintsAll _ _ O.Output.takes masters most_ticks (bus_model bus.old) (bus_model bus.new) out.old out.new) }
     ensures part { IfErr result (PrintsPart _ _ O.Output.takes O.Output.fails masters most_ticks (bus_model bus.old) (bus_model bus.new) out.old out.new) }
     ensures unheld { NeverHold P.Ports.devices → Puts O.Output.takes O.Output.fails (unheld_lines _ _ masters most_ticks (setting_out _ _ masters (bus_model bus.old))) out.old result out.new }
+    ensures only { OneHold P.Ports.devices → (text : List ℕ) (end : Listened _ _) → RunsTo _ _ masters most_ticks (bus_model bus.old) text end → Puts O.Output.takes O.Output.fails text out.old result out.new }
     ensures numbers { (n : ℕ) → n < 2 ^ 64 → Decimal n (decimal n) }
 {
     let mut listing = Listing::new();

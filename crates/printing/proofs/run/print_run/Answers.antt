@@ -1,6 +1,7 @@
 use Rattle.std.proofs.Common.{◌∙◌, ℕ, List, refl, inl, inr, ap, subst, arith, rules}
 use Rattle.std.proofs.Output.{writes_in_calls_single, writes_in_calls_append}
 use Rattle.exchange.specs.Parts.{bus_model}
+use Rattle.printing.proofs.OneText.{puts_only, puts_front}
 use Rattle.printing.proofs.Progress.{lines_are, ticked_is, one_more}
 use Rattle.printing.proofs.Unheld.{puts_all, puts_part}
 use Rattle.text.proofs.Only.{is_decimal}
@@ -71,6 +72,18 @@ returns-clause-unheld g c = λ never.
 pub returns-in-Err-clause-unheld : goal.returns-in-Err-clause-unheld
 returns-in-Err-clause-unheld g c = λ never.
     puts_part g.M.Masters.hosts g.P.Ports.devices never c.args.masters g.O.Output.takes g.O.Output.fails _ _ _ _ _ _ (returns-in-Err-clause-part g c)
+
+pub returns-then-at_rest-clause-only : goal.returns-then-at_rest-clause-only
+returns-then-at_rest-clause-only g c = λ one text end run.
+    puts_only g.M.Masters.hosts g.P.Ports.devices one c.args.masters g.O.Output.takes g.O.Output.fails _ _ _ _ _ text end run (returns-then-at_rest-clause-all g c)
+
+pub returns-clause-only : goal.returns-clause-only
+returns-clause-only g c = λ one text end run.
+    puts_only g.M.Masters.hosts g.P.Ports.devices one c.args.masters g.O.Output.takes g.O.Output.fails _ _ _ _ _ text end run (returns-clause-all g c)
+
+pub returns-in-Err-clause-only : goal.returns-in-Err-clause-only
+returns-in-Err-clause-only g c = λ one text end run.
+    puts_front g.M.Masters.hosts g.P.Ports.devices one c.args.masters g.O.Output.takes g.O.Output.fails _ _ _ _ _ text end run _ (returns-in-Err-clause-part g c)
 
 pub returns-then-at_rest-clause-numbers : goal.returns-then-at_rest-clause-numbers
 returns-then-at_rest-clause-numbers g c = is_decimal
