@@ -10,7 +10,8 @@ use Rattle.device.specs.Behaviours.{Behaviour}
 use Rattle.device.specs.Steps.{Step, select, put, take, finish}
 use Rattle.host.specs.Behaviours.{HostBehaviour}
 use Rattle.wire.specs.declared.wire.Event.TheVariants.{Fall, Stop}
-use Rattle.port.specs.Ports.{answers_to, PortModel}
+use Rattle.transfer.specs.Addresses.{answers_to}
+use Rattle.port.specs.Ports.{PortModel}
 use Rattle.master.specs.Serving.{Served}
 use Rattle.law.specs.Banks.{Bank, listed}
 use Rattle.law.specs.Books.{contends_with}

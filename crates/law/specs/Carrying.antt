@@ -9,7 +9,7 @@ use Rattle.transfer.specs.Outcomes.{OutcomeModel}
 use Rattle.device.specs.Behaviours.{Behaviour}
 use Rattle.law.specs.Banks.{Bank, each, listed, any_true}
 use Rattle.wire.specs.Octets.{digit}
-use Rattle.port.specs.Ports.{answers_to}
+use Rattle.transfer.specs.Addresses.{answers_to}
 use Rattle.law.specs.Strings.{Letter, stop, restart, bit_letter}
 
 -- a device at its address

@@ -10,7 +10,7 @@ use Rattle.law.specs.Banks.{Bank, each, listed, Every}
 use Rattle.law.specs.Carrying.{Placed, Taking, selected, put_to, taken_from, gives, joined, somebody, passed, carried}
 use Rattle.law.specs.Legal.{Legal}
 use Rattle.wire.specs.Octets.{digit}
-use Rattle.port.specs.Ports.{answers_to}
+use Rattle.transfer.specs.Addresses.{answers_to}
 use Rattle.law.specs.Strings.{Letter, stop, restart, one, rank, first_or_same}
 
 -- no stop in these

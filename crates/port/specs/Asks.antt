@@ -13,7 +13,8 @@ use Rattle.wire.specs.Octets.{shifted}
 use Rattle.port.specs.declared.port.Mode.{Mode}
 use Rattle.port.specs.declared.port.Mode.TheVariants.{Out, Addressing, Writing, Acknowledging, Reading}
 use Rattle.port.specs.declared.port.Port.{Port}
-use Rattle.port.specs.Ports.{answers_to, PortModel, port_model, port_step}
+use Rattle.transfer.specs.Addresses.{answers_to}
+use Rattle.port.specs.Ports.{PortModel, port_model, port_step}
 
 -- whether it asks for how long to hold where a bit counts: at a ninth bit that leaves it in
 abbrev pub asks_hold_at_bit : Mode → Bool → Bool

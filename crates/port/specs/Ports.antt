@@ -2,6 +2,7 @@
 use Rattle.std.specs.Prelude.{◌≡◌, ℕ, suc, ◌<◌, ◌-◌, ◌/◌, ◌%◌, Bool, true, false, cond, not, ◌&&◌, Some, None, Option, ◌==◌, nat_lt}
 use Rattle.transfer.specs.declared.leg.Direction.{Direction}
 use Rattle.transfer.specs.declared.leg.Direction.TheVariants.{Write, Read}
+use Rattle.transfer.specs.Addresses.{answers_to}
 use Rattle.transfer.specs.Legs.{direction_of}
 use Rattle.device.specs.Behaviours.{Behaviour}
 use Rattle.device.specs.declared.device.Device.{Ghosts}
@@ -13,10 +14,6 @@ use Rattle.wire.specs.declared.wire.Event.TheVariants.{Rise, Fall, Start, Stop, 
 use Rattle.wire.specs.declared.wire.Pulls.{Pulls}
 use Rattle.wire.specs.declared.wire.Signal.{Signal}
 use Rattle.wire.specs.Octets.{digit, shifted, part}
-
--- whether a port of this address answers to the address asked for
-abbrev pub answers_to : ℕ → ℕ → Bool
-answers_to mine asked = mine == asked
 
 pub record PortModel (b : Behaviour) : Type 0 where
   pub address : ℕ

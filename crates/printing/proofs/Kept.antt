@@ -3,7 +3,8 @@ use Rattle.std.proofs.Common.{ℕ, ◌/◌, ◌%◌, Bool, true, false, cond, Op
 use Rattle.device.specs.Behaviours.{Behaviour}
 use Rattle.port.specs.declared.port.Mode.{Mode}
 use Rattle.port.specs.declared.port.Mode.TheVariants.{Out, Addressing, Writing, Acknowledging, Reading}
-use Rattle.port.specs.Ports.{PortModel, answers_to, goes, selects, called, puts, reads_on, counts, sees}
+use Rattle.transfer.specs.Addresses.{answers_to}
+use Rattle.port.specs.Ports.{PortModel, goes, selects, called, puts, reads_on, counts, sees}
 use Rattle.transfer.specs.declared.leg.Direction.{Direction}
 use Rattle.transfer.specs.declared.leg.Direction.TheVariants.{Write, Read}
 use Rattle.transfer.specs.Legs.{direction_of}

@@ -1,7 +1,7 @@
 // A seven-bit address that a port or a leg may have.
 ghost use Rattle.std.specs.Prelude.{◌≡◌, ◌≤◌};
 ghost use Rattle.transfer.specs.Refusals.{answer};
-ghost use Rattle.transfer.specs.Addresses.{checked_address};
+ghost use Rattle.transfer.specs.Addresses.{checked_address, answers_to};
 
 use crate::refusal::Refusal;
 
@@ -34,5 +34,12 @@ impl Address {
         ensures { result ≡ self.number }
     {
         self.number
+    }
+
+    // Whether a port of this address answers to the seven bits of an address byte.
+    pub fn answers_to(self, asked: u8) -> bool
+        ensures { result ≡ answers_to self.number asked }
+    {
+        asked == self.number
     }
 }

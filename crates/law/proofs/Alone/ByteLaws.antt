@@ -9,7 +9,7 @@ use Rattle.device.specs.Behaviours.{Behaviour}
 use Rattle.law.specs.Banks.{Bank, each, Every}
 use Rattle.law.specs.Carrying.{Placed, Taking, selected, put_to, taken_from, gives, byte_levels, Passed, ends, after_byte, somebody, written, read, passed}
 use Rattle.wire.specs.Octets.{digit}
-use Rattle.port.specs.Ports.{answers_to}
+use Rattle.transfer.specs.Addresses.{answers_to}
 use Rattle.law.specs.Facts.{Exists, having, given, byte_given, write_leg, read_leg, Accepts, Only, ByteLaws}
 use Rattle.law.proofs.Alone.Banks.{any}
 use Rattle.law.proofs.Alone.Octets.{ones, digit_and}

@@ -14,7 +14,7 @@ use Rattle.transfer.specs.Drafts.{TransferModel}
 use Rattle.transfer.specs.Legs.{BodyModel, writes, reads, LegModel, body_direction}
 use Rattle.device.specs.Behaviours.{Behaviour}
 use Rattle.device.specs.Steps.{Step}
-use Rattle.port.specs.Ports.{answers_to}
+use Rattle.transfer.specs.Addresses.{answers_to}
 use Rattle.law.specs.Asked.{Noted, recorded, all_recorded, all_unnoted, all_noted, steps_alone, leg_of, calls_of, handed, called_before, handed_over, all_at, body_reads, read_before, JoinedFrom}
 use Rattle.law.specs.Banks.{Bank, each, listed}
 use Rattle.law.specs.Carrying.{Placed, Taking, taken_from, gives, settled, joined, call_byte, Passed, ends, somebody, written, read, passed_body, passed, carried_on, carried, outcome_named}

@@ -6,7 +6,7 @@ use Rattle.transfer.specs.declared.outcome.OutcomeKind.TheVariants.{NoAnswer, Re
 use Rattle.transfer.specs.Legs.{BodyModel, writes, reads, body_direction}
 use Rattle.device.specs.Behaviours.{Behaviour}
 use Rattle.device.specs.Steps.{Step, select, put, take, finish}
-use Rattle.port.specs.Ports.{answers_to}
+use Rattle.transfer.specs.Addresses.{answers_to}
 use Rattle.law.specs.Asked.{Noted, recorded, all_recorded, before_select, calls_of, handed}
 use Rattle.law.specs.Banks.{Bank, each}
 use Rattle.law.specs.Carrying.{Placed, Taking, taking, selected, put_to, taken_from, settled, call_byte, ends, somebody, written, read, passed_body, passed}

@@ -9,7 +9,8 @@ use Rattle.law.specs.Banks.{Bank, each, listed}
 use Rattle.law.specs.Carrying.{Placed, Taking, selected, put_to, taken_from, gives, settled, joined, somebody}
 use Rattle.wire.specs.Octets.{digit, shifted, part}
 use Rattle.transfer.specs.Legs.{BodyModel, writes, reads, body_direction, direction_of}
-use Rattle.port.specs.Ports.{PortModel, mode_pulls, answers_to, called}
+use Rattle.transfer.specs.Addresses.{answers_to}
+use Rattle.port.specs.Ports.{PortModel, mode_pulls, called}
 use Rattle.law.proofs.Sides.{Side}
 use Rattle.law.proofs.Alone.Banks.{any, each_each, any_each, none_each}
 use Rattle.law.proofs.Alone.Octets.{ones, digit_and}

@@ -10,7 +10,8 @@ use Rattle.device.specs.Behaviours.{Behaviour}
 use Rattle.device.specs.Steps.{Step, select, put, take}
 use Rattle.master.specs.Cursors.{opening_of}
 use Rattle.master.specs.Scripts.{transfers}
-use Rattle.port.specs.Ports.{PortModel, answers_to}
+use Rattle.transfer.specs.Addresses.{answers_to}
+use Rattle.port.specs.Ports.{PortModel}
 use Rattle.law.specs.Asked.{Noted, recorded, all_recorded, leg_of, acknowledge_at, EndsWith, Acknowledged, OfSome, body_writes}
 use Rattle.law.specs.Banks.{Bank, each, listed}
 use Rattle.law.specs.Carrying.{Placed, Taking, taking, selected, put_to, taken_from, somebody}

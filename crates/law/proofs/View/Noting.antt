@@ -7,7 +7,8 @@ use Rattle.device.specs.Behaviours.{Behaviour}
 use Rattle.device.specs.Steps.{Step, select, put, take, finish}
 use Rattle.port.specs.declared.port.Mode.{Mode}
 use Rattle.port.specs.declared.port.Mode.TheVariants.{Out, Addressing, Writing, Acknowledging, Reading}
-use Rattle.port.specs.Ports.{answers_to, PortModel, counts, sees, port_new}
+use Rattle.transfer.specs.Addresses.{answers_to}
+use Rattle.port.specs.Ports.{PortModel, counts, sees, port_new}
 use Rattle.port.specs.Asks.{asks_at_bit, asks_on, asks}
 use Rattle.wire.specs.declared.wire.Event.{Event}
 use Rattle.wire.specs.declared.wire.Event.TheVariants.{Rise, Fall, Start, Stop, SteadyHigh, SteadyLow}

@@ -108,7 +108,7 @@ impl<D: Device> Port<D> {
         let value = shift_in(byte.value, bit);
         if byte.bits < 7 {
             self.mode = Mode::Addressing(byte.received(bit));
-        } else if value / 2 == self.address.number() {
+        } else if self.address.answers_to(value / 2) {
             let direction = Direction::from(value % 2 == 1);
             self.owes_finish = self.device.select(direction);
             self.mode = if self.owes_finish {
