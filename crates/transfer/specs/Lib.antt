@@ -1,4 +1,5 @@
 pub mod Refusals
+pub mod Limits
 pub mod Addresses
 pub mod Clocks
 pub mod Octets
