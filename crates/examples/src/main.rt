@@ -1,11 +1,9 @@
 // Arbitration by example: two masters at odds, under several clock pairs, and who was told at the first stop.
 #![tactic(auto)]
 
-use std::io;
-
 mod run;
 mod setup;
 
-fn main(rt: HostRuntime) -> io::Result<()> {
-    run::run(&mut rt.stdout())
+fn main(rt: HostRuntime) -> anyhow::Result<()> {
+    Ok(run::run(&mut rt.stdout())?)
 }

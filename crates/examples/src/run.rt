@@ -72,7 +72,6 @@ fn example_line(name: &str, one: Transfer, other: Transfer, clocks: Clocks) -> A
     let hosts = (list_of(&[one]).unwrap(), list_of(&[other]).unwrap());
     let mut bus = pair_bus(address, clocks, hosts.0, hosts.1);
     let stop = first_stop(&mut bus);
-    let _ = bus.close();
     let mut line = ArrayString::new();
     line.push_str(name);
     line.push_str(", clocks ");

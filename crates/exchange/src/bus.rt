@@ -9,6 +9,7 @@ mod running;
 
 // It cannot be copied, and closing it moves it: a closed bus is not ticked. Clauses see it by `bus_model`: the value of a
 // model cannot name what its banks stand for.
+#[derive(Drop)]
 pub struct Bus<M: Masters, P: Ports> {
     wire: Wire,
     masters: M,

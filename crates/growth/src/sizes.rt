@@ -19,9 +19,7 @@ pub struct Work {
 fn count<M: Masters + Drop, P: Ports + Drop>(work: Work, mut bus: Bus<M, P>) -> u64
     ensures { (v : BusModel M.Masters.hosts P.Ports.devices) × Worked M.Masters.hosts P.Ports.devices work.masters work.ticks (bus_model bus) result v }
 {
-    let count = count_outcomes(&mut bus, usize::from(work.masters), work.ticks);
-    let _ = bus.close();
-    count
+    count_outcomes(&mut bus, usize::from(work.masters), work.ticks)
 }
 
 // A match on the number, here and below, and no table: each size of a bank is a type of its own.

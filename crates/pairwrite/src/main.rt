@@ -1,12 +1,10 @@
 // Two masters write to one register file at the same time, and the listing of the bus is printed.
 #![tactic(auto)]
 
-use std::io;
-
 mod input;
 mod run;
 mod setup;
 
-fn main(rt: HostRuntime) -> io::Result<()> {
-    run::run(&mut rt.stdin(), &mut rt.stdout())
+fn main(rt: HostRuntime) -> anyhow::Result<()> {
+    Ok(run::run(&mut rt.stdin(), &mut rt.stdout())?)
 }

@@ -33,9 +33,7 @@ pub fn run<I: Input, O: Output>(input: &mut I, out: &mut O) -> io::Result<()>
         return Ok(());
     };
     let mut bus = bus_of(bytes[0], bytes[1]);
-    let ended = print_run(out, &mut bus, MASTERS, ticks_of_turns(2));
-    let _ = bus.close();
-    ended
+    print_run(out, &mut bus, MASTERS, ticks_of_turns(2))
 }
 
 #[cfg(test)]

@@ -22,9 +22,7 @@ fn measure(ticks: u64) -> u64
     let first = writer(registers, 0x12).unwrap();
     let second = writer(registers, 0x10).unwrap();
     let mut bus = pair_bus(registers, clocks, first, second);
-    let count = count_outcomes(&mut bus, MASTERS, ticks);
-    let _ = bus.close();
-    count
+    count_outcomes(&mut bus, MASTERS, ticks)
 }
 
 fn main(rt: HostRuntime) -> anyhow::Result<()> {

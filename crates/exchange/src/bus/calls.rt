@@ -69,6 +69,20 @@ impl<M: Masters, P: Ports> Bus<M, P> {
         }
     }
 
+    /// The masters, each with its host, as they stand between two ticks.
+    pub fn masters(&self) -> &M
+        ensures { result.now ≡ self.now.masters }
+    {
+        &self.masters
+    }
+
+    /// The ports, each with its device, as they stand between two ticks.
+    pub fn ports(&self) -> &P
+        ensures { result.now ≡ self.now.ports }
+    {
+        &self.ports
+    }
+
     // The bus is free and no master is armed.
     pub fn at_rest(&self) -> bool
         ensures { result ≡ is_at_rest _ _ (bus_model self.now) }

@@ -33,5 +33,5 @@ returns c =
           (ok_same (unwrapped (λ k. (k.low, k.high)) _ _ _ c.new-3.ensures c.unwrap-2.ensures))
           (writes_for_ever _ first.0 _ _ _ _ 80 18 refl first.1 address (unwrapped polled _ _ _ first.2 c.unwrap-first.ensures))
           (writes_for_ever _ second.0 _ _ _ _ 80 16 refl second.1 address (unwrapped polled _ _ _ second.2 c.unwrap-second.ensures)),
-      c.count_outcomes-count.ensures,
+      c.count_outcomes.ensures,
     )

@@ -5,7 +5,7 @@ use Rattle.growth.proofs.sizes.count.Goals as goal
 
 pub returns : goal.returns
 returns g c = (
-  bus_model c.count_outcomes-count.new.bus,
-  subst (λ n. Worked g.M.Masters.hosts g.P.Ports.devices n c.args.work.ticks (bus_model c.args.bus) c.count_outcomes-count.result (bus_model c.count_outcomes-count.new.bus))
-      c.from.ensures c.count_outcomes-count.ensures,
+  bus_model c.count_outcomes.new.bus,
+  subst (λ n. Worked g.M.Masters.hosts g.P.Ports.devices n c.args.work.ticks (bus_model c.args.bus) c.count_outcomes.result (bus_model c.count_outcomes.new.bus))
+      c.from.ensures c.count_outcomes.ensures,
 )

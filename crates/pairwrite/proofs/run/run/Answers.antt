@@ -26,6 +26,6 @@ returns g c =
       run_lines m n,
       reads,
       two xs c.in-Some.bytes m n (sym c.in-Some.is ∙ is) first second,
-      subst (λ x. Puts g.O.Output.takes g.O.Output.fails x c.args.out.now c.print_run-ended.result c.print_run-ended.new.out) text
-          (c.print_run-ended.ensures.unheld ((λ meaning h e. e), tt)),
+      subst (λ x. Puts g.O.Output.takes g.O.Output.fails x c.args.out.now c.print_run.result c.print_run.new.out) text
+          (c.print_run.ensures.unheld ((λ meaning h e. e), tt)),
     )
