@@ -28,7 +28,8 @@ module _ (b : Behaviour) (m : b.Meaning) where
   entries_after f g a c = leave_all two_hosts (open_book b f g m).entries (tells a c)
 
   -- a turn of two transfers, from what their models come to
-  turn : (f g : Transfer) (a c : TransferModel) (told_0 told_1 : Option OutcomeModel) (after : b.Meaning) (arming_0 arming_1 : Arming (Unit {0})) →
+  turn : (f g : Transfer) (a c : TransferModel) (told_0 told_1 : Option OutcomeModel) (after : b.Meaning)
+      (arming_0 arming_1 : Arming (Unit {0})) →
       transfer_model f ≡ a → transfer_model g ≡ c →
       tells a c ≡ told_0 ∷ told_1 ∷ [] → device_after a c ≡ placed b after →
       (entries_after f g a c).0.arming ≡ arming_0 → (entries_after f g a c).1.0.arming ≡ arming_1 →

@@ -209,7 +209,8 @@ module _ (W : Script) where
   arm_looks f keeps [] ws i h = refl
   arm_looks f keeps (c ∷ cs) [] i h = refl
   arm_looks f keeps (out m ∷ cs) (w ∷ ws) zero h = refl
-  arm_looks f keeps (live m p ∷ cs) (w ∷ ws) zero h = grind (arith, arm_none (f m p).arming w (ap (λ a. is_some (task_of W a)) (keeps m p) ∙ h.0))
+  arm_looks f keeps (live m p ∷ cs) (w ∷ ws) zero h =
+      grind (arith, arm_none (f m p).arming w (ap (λ a. is_some (task_of W a)) (keeps m p) ∙ h.0))
   arm_looks f keeps (c ∷ cs) (w ∷ ws) (suc i) h = grind (arith, arm_looks f keeps cs)
 
   pub arm_armeds : (cs : List (Cell W)) (ws : Tasks W) (i : ℕ) → Holding W cs → arm_book (cell_armeds W cs) ws i ≡ cell_armeds W (arm_cells cs ws i)

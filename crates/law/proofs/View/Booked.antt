@@ -238,7 +238,8 @@ module _ (hs : List HostBehaviour) (ds : List Behaviour) where
   tells_booked b Start = nobody_is hs b.entries
   tells_booked b SteadyLow = nobody_is hs b.entries
 
-  opens_sound : (es : Bank Entry hs) (d : Bank Placed ds) (v : Turn) (w : Bool) → any_true (listed entry_armed hs es) ≡ w → Sound (of_parts es d v) →
+  opens_sound : (es : Bank Entry hs) (d : Bank Placed ds) (v : Turn) (w : Bool) → any_true (listed entry_armed hs es) ≡ w →
+      Sound (of_parts es d v) →
       Sound (cond w (of_parts (each enters hs es) d opened) (of_parts es d v))
   opens_sound es d v true e k = record {
     kept = enter_kept hs es k.kept;
