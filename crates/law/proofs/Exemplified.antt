@@ -6,8 +6,10 @@ use Rattle.transfer.specs.Outcomes.{OutcomeModel}
 use Rattle.device.specs.Behaviours.{Behaviour}
 use Rattle.device.specs.BusyLayers.{busy_over}
 use Rattle.device.specs.RegisterFiles.{Registers, new_registers, register_file}
+use Rattle.master.specs.declared.arming.Arming.{Arming}
+use Rattle.master.specs.declared.arming.Arming.TheVariants.{Unarmed, Armed}
 use Rattle.law.specs.Banks.{Bank}
-use Rattle.law.specs.Books.{Standing, unarmed, armed, Entry, least, told_all, devices_after, leave_all}
+use Rattle.law.specs.Books.{Entry, least, told_all, devices_after, leave_all}
 use Rattle.law.specs.Carrying.{Placed, Carried, carried}
 use Rattle.law.specs.Examples.{RefusedExamples, StringExamples, TurnExamples, Exhibits, WorkedExamples, two_hosts, open_book, Turn, Wins, placed, write, read_of, write_read, done, pointed_at, busy_registers, stored_at_3}
 
@@ -22,21 +24,22 @@ module _ (b : Behaviour) (m : b.Meaning) where
   abbrev device_after : TransferModel → TransferModel → Bank Placed (b ∷ [])
   device_after a c = devices_after (b ∷ []) (least (b ∷ []) (contest a c)) (placed b m)
 
-  abbrev standings : Transfer → Transfer → TransferModel → TransferModel → Bank Entry two_hosts
-  standings f g a c = leave_all two_hosts (open_book b f g m).entries (tells a c)
+  abbrev entries_after : Transfer → Transfer → TransferModel → TransferModel → Bank Entry two_hosts
+  entries_after f g a c = leave_all two_hosts (open_book b f g m).entries (tells a c)
 
   -- a turn of two transfers, from what their models come to
-  turn : (f g : Transfer) (a c : TransferModel) (told_0 told_1 : Option OutcomeModel) (after : b.Meaning) (standing_0 standing_1 : Standing) →
+  turn : (f g : Transfer) (a c : TransferModel) (told_0 told_1 : Option OutcomeModel) (after : b.Meaning)
+      (arming_0 arming_1 : Arming (Unit {0})) →
       transfer_model f ≡ a → transfer_model g ≡ c →
       tells a c ≡ told_0 ∷ told_1 ∷ [] → device_after a c ≡ placed b after →
-      (standings f g a c).0.standing ≡ standing_0 → (standings f g a c).1.0.standing ≡ standing_1 →
-      Turn b f g m told_0 told_1 after standing_0 standing_1
-  turn f g a c told_0 told_1 after standing_0 standing_1 e h t d x y =
+      (entries_after f g a c).0.arming ≡ arming_0 → (entries_after f g a c).1.0.arming ≡ arming_1 →
+      Turn b f g m told_0 told_1 after arming_0 arming_1
+  turn f g a c told_0 told_1 after arming_0 arming_1 e h t d x y =
       record {
         told = ap₂ (λ p q. tells p q) e h ∙ t;
         device = ap₂ (λ p q. device_after p q) e h ∙ d;
-        first = ap₂ (λ p q. (standings f g p q).0.standing) e h ∙ x;
-        second = ap₂ (λ p q. (standings f g p q).1.0.standing) e h ∙ y;
+        first = ap₂ (λ p q. (entries_after f g p q).0.arming) e h ∙ x;
+        second = ap₂ (λ p q. (entries_after f g p q).1.0.arming) e h ∙ y;
       }
 
 wins : (a c : TransferModel) (xs : List ℕ) (after : Registers) →
@@ -44,10 +47,10 @@ wins : (a c : TransferModel) (xs : List ℕ) (after : Registers) →
     tells register_file new_registers c a ≡ None ∷ done xs ∷ [] → device_after register_file new_registers c a ≡ placed register_file after →
     Wins a c xs after
 wins a c xs after t d u e f g p q = (
-  turn register_file new_registers f g a c (done xs) None after unarmed armed p q t d (ap (λ l. (leave_all two_hosts (open_book register_file f g new_registers).entries l).0.standing) t)
-      (ap (λ l. (leave_all two_hosts (open_book register_file f g new_registers).entries l).1.0.standing) t),
-  turn register_file new_registers g f c a None (done xs) after armed unarmed q p u e (ap (λ l. (leave_all two_hosts (open_book register_file g f new_registers).entries l).0.standing) u)
-      (ap (λ l. (leave_all two_hosts (open_book register_file g f new_registers).entries l).1.0.standing) u),
+  turn register_file new_registers f g a c (done xs) None after Unarmed (Armed tt) p q t d (ap (λ l. (leave_all two_hosts (open_book register_file f g new_registers).entries l).0.arming) t)
+      (ap (λ l. (leave_all two_hosts (open_book register_file f g new_registers).entries l).1.0.arming) t),
+  turn register_file new_registers g f c a None (done xs) after (Armed tt) Unarmed q p u e (ap (λ l. (leave_all two_hosts (open_book register_file g f new_registers).entries l).0.arming) u)
+      (ap (λ l. (leave_all two_hosts (open_book register_file g f new_registers).entries l).1.0.arming) u),
 )
 
 strings : StringExamples
@@ -73,7 +76,7 @@ turns =
       more_over_fewer = wins (read_of 3) (read_of 2) (0 ∷ 0 ∷ 0 ∷ []) (pointed_at 3) refl refl refl refl;
       equal_writes = λ f g e h.
           turn (busy_over register_file) (busy_registers 0 new_registers) f g (write (0x03 ∷ 0x12 ∷ [])) (write (0x03 ∷ 0x12 ∷ [])) (done []) (done [])
-          (busy_registers 1 (stored_at_3 4)) unarmed unarmed e h refl refl refl refl;
+          (busy_registers 1 (stored_at_3 4)) Unarmed Unarmed e h refl refl refl refl;
     }
 
 refusals : RefusedExamples

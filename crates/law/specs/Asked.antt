@@ -14,7 +14,7 @@ use Rattle.transfer.specs.Addresses.{answers_to}
 use Rattle.port.specs.Ports.{PortModel}
 use Rattle.master.specs.Serving.{Served}
 use Rattle.law.specs.Banks.{Bank, listed}
-use Rattle.law.specs.Books.{contends_with}
+use Rattle.law.specs.Books.{contends_with, closed, opened}
 use Rattle.law.specs.Buses.{told_at}
 use Rattle.law.specs.Carrying.{Placed, joined, carried}
 use Rattle.law.specs.Facts.{read_leg}
@@ -159,7 +159,7 @@ module _ (hs : List HostBehaviour) (ds : List Behaviour) where
   -- in the next tick, a fall, a contender hears A after the call of leg k and m bytes written in it: for the call where m is
   -- 0, and otherwise for the last of these bytes
   pub record HearsA (x : Use hs ds) (t : TransferModel) (k : ℕ) (g : LegModel) (m : ℕ) : Type 0 where
-    pub turn : x.book.turn ≡ true
+    pub turn : x.book.turn ≡ opened
     pub fall : event_at hs ds x.bus ≡ Fall
     pub leg : leg_of t k ≡ Some g
     pub bytes : m ≤ body_writes g.body
@@ -180,10 +180,10 @@ module _ (hs : List HostBehaviour) (ds : List Behaviour) where
     -- so it is the byte of the one device that did, if one alone did
     pub alone : (byte : ℕ) → byte < 256 → joined (byte ∷ []) ≡ byte
     -- at the stop of a turn the steps asked in it are those of a transfer that is told, carried alone: once, however many are told
-    pub once : event_at hs ds x.bus ≡ Stop → x.book.turn ≡ true → (i : ℕ) (t : TransferModel) → Contends x i t →
+    pub once : event_at hs ds x.bus ≡ Stop → x.book.turn ≡ opened → (i : ℕ) (t : TransferModel) → Contends x i t →
         is_some (slice_index_or (told_at hs ds x.bus) i None) ≡ true → asked_then hs ds x ≡ steps_alone ds t x.book.devices
     -- and where no turn is open nothing is asked
-    pub resting : x.book.turn ≡ false → asks_at hs ds x.bus ≡ nothing_asked hs ds x.bus
+    pub resting : x.book.turn ≡ closed → asks_at hs ds x.bus ≡ nothing_asked hs ds x.bus
 
   -- at every point of every use of a bus from its making
   abbrev pub EveryAsked : Bank Served hs → Bank PortModel ds → Type 0

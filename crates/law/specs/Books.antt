@@ -1,45 +1,39 @@
 -- The turn book: who is armed, who contends, and what each host and device means, by turns alone. Assumes nothing.
-use Rattle.std.specs.Prelude.{ℕ, Bool, true, false, cond, List, [], ◌∷◌, map, Some, None, Ok, Err, Option, Result}
+use Rattle.std.specs.Prelude.{ℕ, Bool, true, false, cond, List, [], ◌∷◌, map, Some, None, Err, Option, Result}
 use Rattle.std.specs.Option.{option_map}
 use Rattle.transfer.specs.declared.draft.Transfer.{Transfer}
 use Rattle.transfer.specs.Drafts.{TransferModel, transfer_model}
 use Rattle.transfer.specs.Outcomes.{OutcomeModel}
 use Rattle.device.specs.Behaviours.{Behaviour}
 use Rattle.host.specs.Behaviours.{HostBehaviour}
+use Rattle.master.specs.declared.arming.Arming.{Arming}
+use Rattle.master.specs.declared.arming.Arming.TheVariants.{Unarmed}
 use Rattle.wire.specs.declared.wire.Event.{Event}
 use Rattle.wire.specs.declared.wire.Event.TheVariants.{Rise, Fall, Start, Stop, SteadyHigh, SteadyLow}
+use Rattle.master.specs.Armings.{is_armed, armed_by}
 use Rattle.law.specs.Banks.{Bank, each, listed, nth, any_true}
 use Rattle.law.specs.Carrying.{Placed, Carried, carried}
 use Rattle.law.specs.Strings.{same_string, first_or_same}
 
--- whether a master is armed
-pub data Standing : Type 0 where
-  unarmed armed : Standing
-
-abbrev pub is_armed : Standing → Bool
-is_armed unarmed = false
-is_armed armed = true
-
 -- a master's line in the book
 pub record Entry (h : HostBehaviour) : Type 0 where
   pub meaning : h.Meaning
-  pub standing : Standing
+  -- where it is armed, with what its host wants
+  pub arming : Arming (Unit {0})
   -- a contender of the open turn
   pub contends : Bool
 
 module _ (h : HostBehaviour) where
-  abbrev pub standing_of : Entry h → Bool
-  standing_of x = is_armed x.standing
+  abbrev pub entry_armed : Entry h → Bool
+  entry_armed x = is_armed x.arming
 
-  -- an armed master is refused with 6, and one whose host wants nothing with 7
-  abbrev pub entry_arms : Entry h → Standing → Option Transfer → Result (Unit {0}) ℕ × Entry h
-  entry_arms x armed want = (Err 6, x)
-  entry_arms x unarmed None = (Err 7, x)
-  entry_arms x unarmed (Some t) = (Ok tt, record { meaning = x.meaning; standing = armed; contends = x.contends })
+  abbrev pub entry_arms : Entry h → Result (Unit {0}) ℕ × Entry h
+  entry_arms x = let a = armed_by x.arming (option_map (λ t. tt) (h.want x.meaning)) in
+      (a.0, record { meaning = x.meaning; arming = a.1; contends = x.contends })
 
   -- a turn opens for the masters armed
   abbrev pub enters : Entry h → Entry h
-  enters x = record { meaning = x.meaning; standing = x.standing; contends = is_armed x.standing }
+  enters x = record { meaning = x.meaning; arming = x.arming; contends = entry_armed x }
 
   abbrev pub wanted_if : Bool → Option Transfer → Option TransferModel
   wanted_if true want = option_map transfer_model want
@@ -51,12 +45,12 @@ module _ (h : HostBehaviour) where
 
   -- who is told is disarmed; the turn is over for all
   abbrev pub leaves : Entry h → Option OutcomeModel → Entry h
-  leaves x None = record { meaning = x.meaning; standing = x.standing; contends = false }
-  leaves x (Some o) = record { meaning = h.told x.meaning o; standing = unarmed; contends = false }
+  leaves x None = record { meaning = x.meaning; arming = x.arming; contends = false }
+  leaves x (Some o) = record { meaning = h.told x.meaning o; arming = Unarmed; contends = false }
 
 -- past the last master the answer is 5
 abbrev pub entry_arm_nth : (hs : List HostBehaviour) → Bank Entry hs → ℕ → Result (Unit {0}) ℕ × Bank Entry hs
-entry_arm_nth hs p n = nth (Err 5) (λ h x. entry_arms h x x.standing (h.want x.meaning)) hs p n
+entry_arm_nth hs p n = nth (Err 5) entry_arms hs p n
 
 -- what each master is told, in their order
 abbrev pub leave_all : (hs : List HostBehaviour) → Bank Entry hs → List (Option OutcomeModel) → Bank Entry hs
@@ -90,12 +84,19 @@ module _ (ds : List Behaviour) where
   devices_after None d = d
   devices_after (Some best) d = best.devices
 
+-- whether a turn is open
+pub data Turn : Type 0 where
+  closed opened : Turn
+
+abbrev pub is_open : Turn → Bool
+is_open closed = false
+is_open opened = true
+
 module _ (hs : List HostBehaviour) (ds : List Behaviour) where
   pub record Book : Type 0 where
     pub entries : Bank Entry hs
     pub devices : Bank Placed ds
-    -- a turn is open
-    pub turn : Bool
+    pub turn : Turn
 
   abbrev pub book_arm : Book → ℕ → Result (Unit {0}) ℕ × Book
   book_arm b n = let a = entry_arm_nth hs b.entries n in (a.0, record { entries = a.1; devices = b.devices; turn = b.turn })
@@ -108,22 +109,22 @@ module _ (hs : List HostBehaviour) (ds : List Behaviour) where
   nobody_told b = listed (λ h x. None) hs b.entries
 
   -- a turn opens for the masters armed, if any
-  abbrev pub opens : Book → Bool → Book
-  opens b true = b
-  opens b false = let any = any_true (listed standing_of hs b.entries) in
-      cond any (record { entries = each enters hs b.entries; devices = b.devices; turn = true }) b
+  abbrev pub opens : Book → Turn → Book
+  opens b opened = b
+  opens b closed = let any = any_true (listed entry_armed hs b.entries) in
+      cond any (record { entries = each enters hs b.entries; devices = b.devices; turn = opened }) b
 
-  abbrev pub told_at_stop : Book → Bool → List (Option OutcomeModel)
-  told_at_stop b true = told_all ds (least ds (contests b)) (contests b)
-  told_at_stop b false = nobody_told b
+  abbrev pub told_at_stop : Book → Turn → List (Option OutcomeModel)
+  told_at_stop b opened = told_all ds (least ds (contests b)) (contests b)
+  told_at_stop b closed = nobody_told b
 
-  abbrev pub closes : Book → Bool → Book
-  closes b true = record {
-    entries = leave_all hs b.entries (told_at_stop b true);
+  abbrev pub closes : Book → Turn → Book
+  closes b opened = record {
+    entries = leave_all hs b.entries (told_at_stop b opened);
     devices = devices_after ds (least ds (contests b)) b.devices;
-    turn = false;
+    turn = closed;
   }
-  closes b false = b
+  closes b closed = b
 
   -- whom a tick with this event tells, and what
   abbrev pub book_tells : Book → Event → List (Option OutcomeModel)

@@ -13,9 +13,11 @@ use Rattle.device.specs.EventQueues.{event_queue}
 use Rattle.device.specs.RegisterFiles.{Registers, new_registers, register_file}
 use Rattle.host.specs.Behaviours.{HostBehaviour}
 use Rattle.host.specs.ListHosts.{list_host}
+use Rattle.master.specs.declared.arming.Arming.{Arming}
+use Rattle.master.specs.declared.arming.Arming.TheVariants.{Unarmed, Armed}
 use Rattle.wire.specs.declared.wire.Event.TheVariants.{Stop, SteadyHigh}
 use Rattle.law.specs.Banks.{Bank}
-use Rattle.law.specs.Books.{Standing, unarmed, armed, Entry, Book, book_arm, book_tells, book_after}
+use Rattle.law.specs.Books.{Entry, closed, Book, book_arm, book_tells, book_after}
 use Rattle.law.specs.Carrying.{Placed, Carried, carried}
 use Rattle.law.specs.Strings.{zero, stop, restart, one}
 
@@ -37,7 +39,7 @@ abbrev pub two_hosts : List HostBehaviour
 two_hosts = list_host ∷ list_host ∷ []
 
 abbrev pub entry : Transfer → Entry list_host
-entry t = record { meaning = record { rest = t ∷ []; last = None }; standing = unarmed; contends = false }
+entry t = record { meaning = record { rest = t ∷ []; last = None }; arming = Unarmed; contends = false }
 
 module _ (b : Behaviour) where
   abbrev pub placed : b.Meaning → Bank Placed (b ∷ [])
@@ -48,18 +50,19 @@ module _ (b : Behaviour) where
   alone t m = carried (b ∷ []) t (placed m)
 
   abbrev pub book : Transfer → Transfer → b.Meaning → Book two_hosts (b ∷ [])
-  book f g m = record { entries = (entry f, (entry g, tt)); devices = placed m; turn = false }
+  book f g m = record { entries = (entry f, (entry g, tt)); devices = placed m; turn = closed }
 
   -- both are armed, and a turn opens for them
   abbrev pub open_book : Transfer → Transfer → b.Meaning → Book two_hosts (b ∷ [])
   open_book f g m = book_after two_hosts (b ∷ []) (book_arm two_hosts (b ∷ []) (book_arm two_hosts (b ∷ []) (book f g m) 0).1 1).1 SteadyHigh
 
   -- at the stop of the turn of f and g from the device m: who is told what, what the device then means, and who is still armed
-  pub record Turn (f g : Transfer) (m : b.Meaning) (told_0 told_1 : Option OutcomeModel) (after : b.Meaning) (armed_0 armed_1 : Standing) : Type 0 where
+  pub record Turn (f g : Transfer) (m : b.Meaning) (told_0 told_1 : Option OutcomeModel) (after : b.Meaning)
+      (arming_0 arming_1 : Arming (Unit {0})) : Type 0 where
     pub told : book_tells two_hosts (b ∷ []) (open_book f g m) Stop ≡ told_0 ∷ told_1 ∷ []
     pub device : (book_after two_hosts (b ∷ []) (open_book f g m) Stop).devices ≡ placed after
-    pub first : (book_after two_hosts (b ∷ []) (open_book f g m) Stop).entries.0.standing ≡ armed_0
-    pub second : (book_after two_hosts (b ∷ []) (open_book f g m) Stop).entries.1.0.standing ≡ armed_1
+    pub first : (book_after two_hosts (b ∷ []) (open_book f g m) Stop).entries.0.arming ≡ arming_0
+    pub second : (book_after two_hosts (b ∷ []) (open_book f g m) Stop).entries.1.0.arming ≡ arming_1
 
 abbrev pub write : List ℕ → TransferModel
 write xs = record { first = record { address = 0x50; body = writes xs }; second = None }
@@ -170,14 +173,15 @@ pub record StringExamples : Type 0 where
 -- the first of two transfers to a fresh register file wins over the second, whichever master sends it, reads these bytes, and leaves the register file so
 abbrev pub Wins : TransferModel → TransferModel → List ℕ → Registers → Type 0
 Wins a b xs after = (f g : Transfer) → transfer_model f ≡ a → transfer_model g ≡ b →
-    Turn register_file f g new_registers (done xs) None after unarmed armed × Turn register_file g f new_registers None (done xs) after armed unarmed
+    Turn register_file f g new_registers (done xs) None after Unarmed (Armed tt)
+    × Turn register_file g f new_registers None (done xs) after (Armed tt) Unarmed
 
 -- two transfers of which the first wins so over the second
 pub record Exhibits (a b : TransferModel) (xs : List ℕ) (after : Registers) (f g : Transfer) : Type 0 where
   pub first_is : transfer_model f ≡ a
   pub second_is : transfer_model g ≡ b
-  pub first_wins : Turn register_file f g new_registers (done xs) None after unarmed armed
-  pub wins_as_second : Turn register_file g f new_registers None (done xs) after armed unarmed
+  pub first_wins : Turn register_file f g new_registers (done xs) None after Unarmed (Armed tt)
+  pub wins_as_second : Turn register_file g f new_registers None (done xs) after (Armed tt) Unarmed
 
 pub record TurnExamples : Type 0 where
   pub stop_over_one : Wins (write (0x03 ∷ [])) (write (0x03 ∷ 0x80 ∷ [])) [] (pointed_at 3)
@@ -188,7 +192,7 @@ pub record TurnExamples : Type 0 where
   -- two equal writes are one turn that tells both; the device takes its steps once, as a busy layer shows
   pub equal_writes : (f g : Transfer) → transfer_model f ≡ write (0x03 ∷ 0x12 ∷ []) → transfer_model g ≡ write (0x03 ∷ 0x12 ∷ []) →
       Turn (busy_over register_file) f g (busy_registers 0 new_registers) (done []) (done [])
-      (busy_registers 1 (stored_at_3 4)) unarmed unarmed
+      (busy_registers 1 (stored_at_3 4)) Unarmed Unarmed
 
 -- two queues at one address
 abbrev pub two_queues : List Behaviour

@@ -4,12 +4,13 @@ use Rattle.std.specs.List.{fold, count_by}
 use Rattle.device.specs.Behaviours.{Behaviour}
 use Rattle.device.specs.Steps.{Step}
 use Rattle.host.specs.Behaviours.{HostBehaviour}
+use Rattle.master.specs.declared.arming.Arming.TheVariants.{Unarmed}
 use Rattle.master.specs.declared.mark.Mark.{Mark}
 use Rattle.master.specs.declared.mark.Mark.TheVariants.{Quiet, Told, Lost}
 use Rattle.wire.specs.declared.wire.Event.{Event}
 use Rattle.wire.specs.declared.wire.Event.TheVariants.{Rise, Fall, Start, Stop, SteadyHigh, SteadyLow}
 use Rattle.law.specs.Banks.{Bank, each, listed, Every, any_true}
-use Rattle.law.specs.Books.{unarmed, Entry, standing_of, Book, book_arm, book_tells, book_after, contests, least}
+use Rattle.law.specs.Books.{Entry, entry_armed, closed, opened, is_open, Book, book_arm, book_tells, book_after, contests, least}
 use Rattle.law.specs.Buses.{BusModel, Holds, over, made, arm_at, levels_at, tick_at, told_at, is_at_rest}
 use Rattle.master.specs.Serving.{Served, served_armed, served_mark, served_pulls}
 use Rattle.law.specs.Carrying.{Placed, Carried}
@@ -111,8 +112,8 @@ module _ (hs : List HostBehaviour) (ds : List Behaviour) where
 
   -- a turn that opens is watched from its first tick on
   abbrev pub watched : Watch → Book hs ds → Event → Watch
-  watched w b e = cond b.turn (sees w e)
-      (cond (book_after hs ds b e).turn (watching 0 false (listed (λ h x. false) hs b.entries) None []) (sees w e))
+  watched w b e = cond (is_open b.turn) (sees w e)
+      (cond (is_open (book_after hs ds b e).turn) (watching 0 false (listed (λ h x. false) hs b.entries) None []) (sees w e))
 
   abbrev pub arm_counted : Use → Result (Unit {0}) ℕ × BusModel hs ds → ℕ → Use
   arm_counted x a n = record {
@@ -133,7 +134,7 @@ module _ (hs : List HostBehaviour) (ds : List Behaviour) where
 
   -- what was asked in a turn, once the next tick is made; it begins anew where no turn is open before the tick
   abbrev pub asked_then : Use → List (List Step)
-  asked_then x = longer (cond x.book.turn x.asked (nothing_asked x.bus)) (asks_at x.bus)
+  asked_then x = longer (cond (is_open x.book.turn) x.asked (nothing_asked x.bus)) (asks_at x.bus)
 
   abbrev pub ticks_once : Use → Holds ds → Use
   ticks_once x a = record {
@@ -159,7 +160,7 @@ module _ (hs : List HostBehaviour) (ds : List Behaviour) where
   used x cs = fold calls x cs
 
   abbrev pub new_entry : (h : HostBehaviour) → Served h → Entry h
-  new_entry h x = record { meaning = x.meaning; standing = unarmed; contends = false }
+  new_entry h x = record { meaning = x.meaning; arming = Unarmed; contends = false }
 
   abbrev pub placed_at : (b : Behaviour) → PortModel b → Placed b
   placed_at b p = record { address = p.address; meaning = p.meaning }
@@ -168,7 +169,7 @@ module _ (hs : List HostBehaviour) (ds : List Behaviour) where
   abbrev pub beginning : Bank Served hs → Bank PortModel ds → Use
   beginning ms ps = record {
     bus = made hs ds ms ps;
-    book = record { entries = each new_entry hs ms; devices = each placed_at ds ps; turn = false };
+    book = record { entries = each new_entry hs ms; devices = each placed_at ds ps; turn = closed };
     watch = watching 0 false [] None [];
     asked = listed (λ b p. []) ds ps;
     accepted = 0;
@@ -183,15 +184,16 @@ module _ (hs : List HostBehaviour) (ds : List Behaviour) where
     -- hosts stand as in the book at every point, devices whenever the bus is free
     pub hosts : each (λ h y. y.meaning) hs x.bus.masters ≡ each (λ h y. y.meaning) hs x.book.entries
     pub devices : x.bus.wire.busy ≡ false → each placed_at ds x.bus.ports ≡ x.book.devices
-    pub armed : armed_now x ≡ listed standing_of hs x.book.entries
+    pub armed : armed_now x ≡ listed entry_armed hs x.book.entries
     -- accepted arms are outcomes told and masters armed
     pub counts : x.accepted ≡ x.told + how_many_true (armed_now x)
     -- who was marked lost in the open turn pulls neither line
-    pub silent : x.book.turn ≡ true → (i : ℕ) → slice_index_or x.watch.marked i false ≡ true → slice_index_or (listed served_pulls hs x.bus.masters) i no_pulls ≡ no_pulls
+    pub silent : x.book.turn ≡ opened → (i : ℕ) → slice_index_or x.watch.marked i false ≡ true →
+        slice_index_or (listed served_pulls hs x.bus.masters) i no_pulls ≡ no_pulls
 
   -- what a mark of a loss in the next tick says of master i
   pub record Loses (x : Use) (i : ℕ) : Type 0 where
-    pub turn : x.book.turn ≡ true
+    pub turn : x.book.turn ≡ opened
     pub own : Carried ds
     pub contends : slice_index_or (contests hs ds x.book) i None ≡ Some own
     pub before : slice_index_or x.watch.marked i false ≡ false
@@ -217,9 +219,10 @@ module _ (hs : List HostBehaviour) (ds : List Behaviour) where
     pub shows : (a : Holds ds) → (tick_at hs ds x.bus a).0 ≡ record { levels = levels_at hs ds x.bus; event = event_at x.bus; marks = over (marks_of x.bus) (replicate 8 Quiet) }
     pub marks : map is_told (marks_of x.bus) ≡ map is_some (told_at hs ds x.bus)
     pub loses : (i : ℕ) → slice_index_or (marks_of x.bus) i Quiet ≡ Lost → Loses x i
-    pub stops : event_at x.bus ≡ Stop → x.book.turn ≡ true → (i : ℕ) (own : Carried ds) → slice_index_or (contests hs ds x.book) i None ≡ Some own → Stopped x i own
+    pub stops : event_at x.bus ≡ Stop → x.book.turn ≡ opened → (i : ℕ) (own : Carried ds) →
+        slice_index_or (contests hs ds x.book) i None ≡ Some own → Stopped x i own
     -- what was spelled is the least string
-    pub spells : event_at x.bus ≡ Stop → x.book.turn ≡ true → (best : Carried ds) → least ds (contests hs ds x.book) ≡ Some best →
+    pub spells : event_at x.bus ≡ Stop → x.book.turn ≡ opened → (best : Carried ds) → least ds (contests hs ds x.book) ≡ Some best →
         (watched x.watch x.book (event_at x.bus)).spelled ≡ best.letters
 
   -- the ticks that calls make, from a use

@@ -1,3 +1,4 @@
+pub mod Armings
 pub mod Symbols
 pub mod Rooms
 pub mod Cursors

@@ -1,9 +1,10 @@
 -- One master after one event: the rules of a contender. Assumes nothing.
-use Rattle.std.specs.Prelude.{ℕ, ◌-◌, Bool, true, false, cond, Some, None, Ok, Err, Option, Result, ◌==◌, nat_lt}
+use Rattle.std.specs.Prelude.{ℕ, ◌-◌, Bool, true, false, cond, Option, Result, ◌==◌, nat_lt}
 use Rattle.std.specs.Option.{unwrap_or}
-use Rattle.transfer.specs.declared.draft.Transfer.{Transfer}
 use Rattle.transfer.specs.Drafts.{transfer_model}
 use Rattle.transfer.specs.Outcomes.{outcome_model}
+use Rattle.master.specs.declared.arming.Arming.{Arming}
+use Rattle.master.specs.declared.arming.Arming.TheVariants.{Unarmed, Armed}
 use Rattle.master.specs.declared.master.MasterState.{MasterState}
 use Rattle.master.specs.declared.master.Stage.{Stage}
 use Rattle.master.specs.declared.master.Stage.TheVariants.{Waiting, Opening, Showing, Ending}
@@ -15,16 +16,13 @@ use Rattle.wire.specs.declared.wire.Event.{Event}
 use Rattle.wire.specs.declared.wire.Event.TheVariants.{Rise, Fall, Start, Stop, SteadyHigh, SteadyLow}
 use Rattle.wire.specs.declared.wire.Pulls.{Pulls}
 use Rattle.wire.specs.declared.wire.Signal.{Signal}
+use Rattle.master.specs.Armings.{arming_map, armed_by}
 use Rattle.master.specs.Cursors.{cursor_model}
 use Rattle.master.specs.Scripts.{Script, transfers}
 use Rattle.master.specs.Symbols.{pulls_sda}
 use Rattle.wire.specs.Wires.{no_pulls}
 
 module _ (W : Script) where
-  pub data ArmingModel : Type 0 where
-    unarmed : ArmingModel
-    armed : W.Task → ArmingModel
-
   -- no contender, or lost; before the first fall; showing a symbol; SDA let go for the stop in the last tick
   pub data StageModel : Type 0 where
     waiting : StageModel
@@ -35,7 +33,7 @@ module _ (W : Script) where
   pub record MasterModel : Type 0 where
     pub low : ℕ
     pub high : ℕ
-    pub arming : ArmingModel
+    pub arming : Arming W.Task
     pub stage : StageModel
     pub count : ℕ
     pub pulls : Pulls
@@ -46,7 +44,7 @@ module _ (W : Script) where
     told : W.Outcome → VerdictModel
 
   abbrev pub new_master : ℕ → ℕ → MasterModel
-  new_master low high = record { low = low; high = high; arming = unarmed; stage = waiting; count = 0; pulls = no_pulls }
+  new_master low high = record { low = low; high = high; arming = Unarmed; stage = waiting; count = 0; pulls = no_pulls }
 
   abbrev pub to : MasterModel → StageModel → ℕ → Bool → Bool → MasterModel
   to m s n scl sda = record { low = m.low; high = m.high; arming = m.arming; stage = s; count = n; pulls = record { scl = scl; sda = sda } }
@@ -62,9 +60,9 @@ module _ (W : Script) where
   abbrev pub tells : MasterModel → W.Cursor → MasterModel × VerdictModel
   tells m c = (new_master m.low m.high, told (W.outcome c))
 
-  abbrev pub contends : MasterModel → ArmingModel → MasterModel × VerdictModel
-  contends m unarmed = stays m
-  contends m (armed t) = (to m (opening (W.begin t)) 0 false true, quiet)
+  abbrev pub contends : MasterModel → Arming W.Task → MasterModel × VerdictModel
+  contends m Unarmed = stays m
+  contends m (Armed t) = (to m (opening (W.begin t)) 0 false true, quiet)
 
   -- at a fall SCL is pulled and the symbol shown
   abbrev pub shows : MasterModel → W.Cursor → MasterModel × VerdictModel
@@ -125,18 +123,9 @@ module _ (W : Script) where
   abbrev pub master_step : MasterModel → Signal → MasterModel × VerdictModel
   master_step m s = steps m m.stage s.event s.bit s.idle
 
-  -- an armed master is refused with 6, and one whose host wants nothing with 7
-  abbrev pub arms : MasterModel → ArmingModel → Option W.Task → Result (Unit {0}) ℕ × MasterModel
-  arms m (armed t) want = (Err 6, m)
-  arms m unarmed None = (Err 7, m)
-  arms m unarmed (Some t) = (Ok tt, record { low = m.low; high = m.high; arming = armed t; stage = m.stage; count = m.count; pulls = m.pulls })
-
   abbrev pub arm_master : MasterModel → Option W.Task → Result (Unit {0}) ℕ × MasterModel
-  arm_master m want = arms m m.arming want
-
-abbrev pub arming_model : Option Transfer → ArmingModel transfers
-arming_model None = unarmed
-arming_model (Some t) = armed (transfer_model t)
+  arm_master m want = let a = armed_by m.arming want in
+      (a.0, record { low = m.low; high = m.high; arming = a.1; stage = m.stage; count = m.count; pulls = m.pulls })
 
 abbrev pub stage_model : Stage → StageModel transfers
 stage_model Waiting = waiting
@@ -148,7 +137,7 @@ abbrev pub master_model : MasterState → MasterModel transfers
 master_model m = record {
   low = m.clock.low;
   high = m.clock.high;
-  arming = arming_model m.armed;
+  arming = arming_map transfer_model m.arming;
   stage = stage_model m.stage;
   count = m.count;
   pulls = m.pulls;

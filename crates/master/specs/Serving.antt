@@ -1,5 +1,5 @@
 -- A master with the host that it serves. Assumes nothing.
-use Rattle.std.specs.Prelude.{◌≡◌, ℕ, Bool, true, false, Some, None, Option, Result}
+use Rattle.std.specs.Prelude.{◌≡◌, ℕ, Bool, Some, None, Option, Result}
 use Rattle.std.specs.Option.{option_map}
 use Rattle.transfer.specs.Drafts.{transfer_model}
 use Rattle.transfer.specs.Outcomes.{OutcomeModel}
@@ -10,17 +10,14 @@ use Rattle.master.specs.declared.mark.Mark.TheVariants.{Quiet, Told, Lost}
 use Rattle.master.specs.declared.master.Master.{Master}
 use Rattle.wire.specs.declared.wire.Pulls.{Pulls}
 use Rattle.wire.specs.declared.wire.Signal.{Signal}
-use Rattle.master.specs.Masters.{ArmingModel, unarmed, armed, MasterModel, VerdictModel, quiet, lost, told, master_step, arm_master, new_master, master_model}
+use Rattle.master.specs.Armings.{is_armed}
+use Rattle.master.specs.Masters.{MasterModel, VerdictModel, quiet, lost, told, master_step, arm_master, new_master, master_model}
 use Rattle.master.specs.Scripts.{transfers}
 
 -- a master and the meaning of its host
 pub record Served (h : HostBehaviour) : Type 0 where
   pub master : MasterModel transfers
   pub meaning : h.Meaning
-
-abbrev pub is_armed : ArmingModel transfers → Bool
-is_armed unarmed = false
-is_armed (armed t) = true
 
 abbrev pub mark_of : VerdictModel transfers → Mark
 mark_of quiet = Quiet

@@ -1,11 +1,13 @@
 // A master: it plays a transfer symbol by symbol, in step with whoever else contends, until it is done or has lost.
 #![tactic(auto)]
 
+mod arming;
 mod cursor;
 mod mark;
 mod master;
 mod symbol;
 
+pub use arming::Arming;
 pub use mark::Mark;
 pub use master::Master;
 pub use symbol::Symbol;

@@ -1,4 +1,5 @@
 // A master: its clock, what it is armed with and where it stands in a turn.
+use crate::arming::Arming;
 use crate::cursor::Cursor;
 use crate::symbol::Symbol;
 use transfer::{ClockPair, Outcome, Transfer};
@@ -32,8 +33,7 @@ pub enum Verdict {
 #[derive(Drop)]
 pub struct MasterState {
     clock: ClockPair,
-    // what it is armed with
-    armed: Option<Transfer>,
+    arming: Arming<Transfer>,
     stage: Stage,
     count: u8,
     pulls: Pulls,

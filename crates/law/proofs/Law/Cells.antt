@@ -1,9 +1,11 @@
 -- The cells of a turn: who is armed, who was marked, and what an arm changes.
 use Rattle.std.proofs.Common.{◌≡◌, ℕ, zero, suc, Bool, true, false, not, ◌&&◌, ◌||◌, eqb, List, [], ◌∷◌, get_or, is_some, Some, None, Option, refl, ap, ◌∙◌, ap₂, map, arith}
+use Rattle.master.specs.declared.arming.Arming.{Arming}
 use Rattle.master.specs.declared.symbol.Symbol.{Symbol}
-use Rattle.master.specs.Masters.{ArmingModel, MasterModel, VerdictModel, quiet, lost, arms, arm_master}
+use Rattle.master.specs.Armings.{armed_by}
+use Rattle.master.specs.Masters.{MasterModel, VerdictModel, quiet, lost, arm_master}
 use Rattle.master.specs.Scripts.{Script}
-use Rattle.law.proofs.Law.Phases.{rank, Cell, out, live, off, looks, notes, cursor, cursors, some, alive, Every, Times, Timed, who, stay, advance, finished, claim_all}
+use Rattle.law.proofs.Law.Phases.{rank, Cell, out, live, looks, notes, cursor, cursors, some, alive, Every, Timed, who, stay, advance, finished, claim_all}
 use Rattle.law.proofs.Law.Race.{at}
 use Rattle.law.proofs.Law.Uses.{Tasks, count, any, armed_if, arm_book, nobody, task_of, armeds, pulling, is_lost, telling, tellings, arm_masters, begins, falses, marks_too}
 
@@ -196,37 +198,32 @@ module _ (W : Script) where
   arm_cells (c ∷ cs) (w ∷ ws) zero = arm_cell c w ∷ cs
   arm_cells (c ∷ cs) (w ∷ ws) (suc i) = c ∷ arm_cells cs ws i
 
-  arm_none : (m : MasterModel W) (a : ArmingModel W) (w : Option W.Task) → is_some (task_of W a) ≡ true → (arms W m a w).1 ≡ m
-  arm_none m a w h = grind arith
+  arm_none : (a : Arming W.Task) (w : Option W.Task) → is_some (task_of W a) ≡ true → (armed_by a w).1 ≡ a
+  arm_none a w h = grind arith
 
-  arm_off : (m : MasterModel W) (a : ArmingModel W) (w : Option W.Task) → (arms W (off W m) a w).1 ≡ off W (arms W m a w).1
-  arm_off m a w = grind arith
-
-  arm_task : (m : MasterModel W) (a : ArmingModel W) (w : Option W.Task) → m.arming ≡ a → armed_if (task_of W a) w ≡ task_of W (arms W m a w).1.arming
-  arm_task m a w h = grind arith
-
-  arm_times : (m : MasterModel W) (a : ArmingModel W) (w : Option W.Task) → Times W m → Times W (arms W m a w).1
-  arm_times m a w h = grind arith
+  arm_task : (a : Arming W.Task) (w : Option W.Task) → armed_if (task_of W a) w ≡ task_of W (armed_by a w).1
+  arm_task a w = grind arith
 
   pub arm_looks : (f : MasterModel W → W.Cursor → MasterModel W) (keeps : (m : MasterModel W) (p : W.Cursor) → (f m p).arming ≡ m.arming)
       (cs : List (Cell W)) (ws : Tasks W) (i : ℕ) → Holding W cs → arm_masters W (looks W f cs) ws i ≡ looks W f (arm_cells cs ws i)
   arm_looks f keeps [] ws i h = refl
   arm_looks f keeps (c ∷ cs) [] i h = refl
-  arm_looks f keeps (out m ∷ cs) (w ∷ ws) zero h = ap (λ x. x ∷ looks W f cs) (arm_off m m.arming w)
-  arm_looks f keeps (live m p ∷ cs) (w ∷ ws) zero h = ap (λ x. x ∷ looks W f cs) (arm_none (f m p) (f m p).arming w (ap (λ a. is_some (task_of W a)) (keeps m p) ∙ h.0))
+  arm_looks f keeps (out m ∷ cs) (w ∷ ws) zero h = refl
+  arm_looks f keeps (live m p ∷ cs) (w ∷ ws) zero h =
+      grind (arith, arm_none (f m p).arming w (ap (λ a. is_some (task_of W a)) (keeps m p) ∙ h.0))
   arm_looks f keeps (c ∷ cs) (w ∷ ws) (suc i) h = grind (arith, arm_looks f keeps cs)
 
   pub arm_armeds : (cs : List (Cell W)) (ws : Tasks W) (i : ℕ) → Holding W cs → arm_book (cell_armeds W cs) ws i ≡ cell_armeds W (arm_cells cs ws i)
   arm_armeds [] ws i h = refl
   arm_armeds (c ∷ cs) [] i h = refl
-  arm_armeds (out m ∷ cs) (w ∷ ws) zero h = ap (λ x. x ∷ cell_armeds W cs) (arm_task m m.arming w refl)
+  arm_armeds (out m ∷ cs) (w ∷ ws) zero h = ap (λ x. x ∷ cell_armeds W cs) (arm_task m.arming w)
   arm_armeds (live m p ∷ cs) (w ∷ ws) zero h = ap (λ x. x ∷ cell_armeds W cs) (armed_same (task_of W m.arming) w h.0)
   arm_armeds (c ∷ cs) (w ∷ ws) (suc i) h = grind (arith, arm_armeds cs)
 
   pub arm_timed : (cs : List (Cell W)) (ws : Tasks W) (i : ℕ) → Timed W cs → Timed W (arm_cells cs ws i)
   arm_timed [] ws i t = tt
   arm_timed (c ∷ cs) [] i t = t
-  arm_timed (out m ∷ cs) (w ∷ ws) zero t = (arm_times m m.arming w t.0, t.1)
+  arm_timed (out m ∷ cs) (w ∷ ws) zero t = grind arith
   arm_timed (live m p ∷ cs) (w ∷ ws) zero t = t
   arm_timed (c ∷ cs) (w ∷ ws) (suc i) t = (t.0, arm_timed cs ws i t.1)
 

@@ -3,7 +3,9 @@ use Rattle.std.proofs.Common.{◌≡◌, ℕ, zero, suc, ◌+◌, ◌<◌, ◌�
 use Rattle.master.specs.declared.symbol.Symbol.{Symbol}
 use Rattle.wire.specs.declared.wire.Event.{Event}
 use Rattle.wire.specs.declared.wire.Event.TheVariants.{Rise, Fall, Start, Stop, SteadyHigh, SteadyLow}
-use Rattle.master.specs.Masters.{ArmingModel, MasterModel, rises, new_master, arms as arms_step}
+use Rattle.master.specs.declared.arming.Arming.{Arming}
+use Rattle.master.specs.Armings.{armed_by}
+use Rattle.master.specs.Masters.{MasterModel, rises, new_master}
 use Rattle.master.specs.Scripts.{Script}
 use Rattle.law.proofs.Sides.{Side}
 use Rattle.law.proofs.Law.Machine.{Bus, tick, tick_event, tick_verdicts}
@@ -42,13 +44,13 @@ wanted_arm : {A : Type 0} (ws os : List (Option A)) (i : ℕ) → Wanted ws os �
 wanted_arm ws os i h j t e = elim (arm_from os ws i j t e) [ inl z ↦ h j t z | inr z ↦ z ]
 
 module _ (W : Script) where
-  answer_one : (m : MasterModel W) (a : ArmingModel W) (w : Option W.Task) → (arms_step W m a w).0 ≡ answer_if (task_of W a) w
-  answer_one m a w = grind arith
+  answer_one : (a : Arming W.Task) (w : Option W.Task) → (armed_by a w).0 ≡ answer_if (task_of W a) w
+  answer_one a w = grind arith
 
   answers : (ms : List (MasterModel W)) (ws : Tasks W) (i : ℕ) → arm_answer W ms ws i ≡ answer (armeds W ms) ws i
   answers [] ws i = refl
   answers (m ∷ ms) [] i = refl
-  answers (m ∷ ms) (w ∷ ws) zero = answer_one m m.arming w
+  answers (m ∷ ms) (w ∷ ws) zero = answer_one m.arming w
   answers (m ∷ ms) (w ∷ ws) (suc i) = answers ms ws i
 
   rise_out : (m : MasterModel W) (p : W.Cursor) (x : Symbol) (b : Bool) → early_lost b x ≡ true → ((rises W m x p b).0.pulls.scl || (rises W m x p b).0.pulls.sda) ≡ false

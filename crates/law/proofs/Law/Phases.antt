@@ -1,11 +1,13 @@
 -- The phases of a slot: the whole bus as a function of the cells, the side and the ticks gone by.
 use Rattle.std.proofs.Common.{◌≡◌, ℕ, ◌-◌, ◌≤◌, min, Bool, true, false, cond, not, ◌||◌, eqb, ltb, ◌⊎◌, List, [], ◌∷◌, Some, None, Option, map}
+use Rattle.master.specs.declared.arming.Arming.{Arming}
+use Rattle.master.specs.declared.arming.Arming.TheVariants.{Unarmed, Armed}
 use Rattle.master.specs.declared.symbol.Symbol.{Symbol}
 use Rattle.master.specs.declared.symbol.Symbol.TheVariants.{Zero, One, Listen, RepeatedStart, Stop}
 use Rattle.wire.specs.declared.wire.Event.{Event}
 use Rattle.wire.specs.declared.wire.Levels.{Levels}
 use Rattle.wire.specs.declared.wire.Signal.{Signal}
-use Rattle.master.specs.Masters.{ArmingModel, unarmed, armed, MasterModel, waiting, opening, showing, VerdictModel, quiet, lost, told, to, rises, new_master}
+use Rattle.master.specs.Masters.{MasterModel, waiting, opening, showing, VerdictModel, quiet, lost, told, to, rises, new_master}
 use Rattle.master.specs.Scripts.{Script}
 use Rattle.master.specs.Symbols.{pulls_sda}
 use Rattle.law.proofs.Sides.{Side}
@@ -203,9 +205,9 @@ module _ (W : Script) where
   abbrev pub finished : List Cell → List Cell
   finished cs = turns dones cs
 
-  abbrev pub claim : MasterModel W → ArmingModel W → Cell
-  claim m unarmed = out m
-  claim m (armed t) = live m (W.begin t)
+  abbrev pub claim : MasterModel W → Arming W.Task → Cell
+  claim m Unarmed = out m
+  claim m (Armed t) = live m (W.begin t)
 
   abbrev pub claim_all : List Cell → List Cell
   claim_all cs = map (λ c. claim (who c) (who c).arming) cs

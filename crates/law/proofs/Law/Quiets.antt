@@ -2,7 +2,8 @@
 use Rattle.std.proofs.Common.{◌≡◌, ℕ, Bool, true, false, List, None, Option, refl, arith}
 use Rattle.std.proofs.lemmas.Bool.Decides.{nat_tests}
 use Rattle.wire.specs.declared.wire.Event.TheVariants.{Rise, Fall, Start, SteadyHigh, SteadyLow}
-use Rattle.master.specs.Masters.{ArmingModel, MasterModel, quiet, contends}
+use Rattle.master.specs.declared.arming.Arming.{Arming}
+use Rattle.master.specs.Masters.{MasterModel, quiet, contends}
 use Rattle.master.specs.Scripts.{Script}
 use Rattle.law.proofs.Law.Machine.{verdicts}
 use Rattle.law.proofs.Law.Phases.{shown, Cell, off, looks, notes, no_verdict, early, idling, claimed, opened, lowered, settled}
@@ -30,7 +31,7 @@ module _ (W : Script) where
   pub claimed_quiet : (cs : List (Cell W)) → verdicts W (looks W (claimed W) cs) (shown Start None false) ≡ notes W (no_verdict W) cs
   claimed_quiet cs = verdicts_all W (claimed W) (no_verdict W) (shown Start None false) (λ x. Unit {0}) (λ m. refl) (λ m p q. refl) cs (all_of W cs)
 
-  idle_one : (m : MasterModel W) (a : ArmingModel W) → (contends W m a).1 ≡ quiet
+  idle_one : (m : MasterModel W) (a : Arming W.Task) → (contends W m a).1 ≡ quiet
   idle_one m a = grind arith
 
   pub idle_quiet : (cs : List (Cell W)) → verdicts W (looks W (idling W) cs) (shown SteadyHigh None true) ≡ notes W (no_verdict W) cs

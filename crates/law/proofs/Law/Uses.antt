@@ -5,7 +5,9 @@ use Rattle.std.specs.List.{list_any}
 use Rattle.std.specs.Option.{option_map}
 use Rattle.wire.specs.declared.wire.Event.{Event}
 use Rattle.wire.specs.declared.wire.Event.TheVariants.{Rise, Fall, Start, Stop, SteadyHigh, SteadyLow}
-use Rattle.master.specs.Masters.{ArmingModel, unarmed, armed, MasterModel, VerdictModel, quiet, lost, told, new_master, arm_master}
+use Rattle.master.specs.declared.arming.Arming.{Arming}
+use Rattle.master.specs.declared.arming.Arming.TheVariants.{Unarmed, Armed}
+use Rattle.master.specs.Masters.{MasterModel, VerdictModel, quiet, lost, told, new_master, arm_master}
 use Rattle.master.specs.Scripts.{Script}
 use Rattle.wire.specs.Wires.{quiet_wire}
 use Rattle.law.proofs.Sides.{Side}
@@ -86,9 +88,9 @@ abbrev pub Wanted : {A : Type 0} → List (Option A) → List (Option A) → Typ
 Wanted {A} ws os = (i : ℕ) (t : A) → at os i ≡ Some t → at ws i ≡ Some t
 
 module _ (W : Script) where
-  abbrev pub task_of : ArmingModel W → Option W.Task
-  task_of unarmed = None
-  task_of (armed t) = Some t
+  abbrev pub task_of : Arming W.Task → Option W.Task
+  task_of Unarmed = None
+  task_of (Armed t) = Some t
 
   abbrev pub armeds : List (MasterModel W) → Tasks W
   armeds ms = map (λ m. task_of m.arming) ms

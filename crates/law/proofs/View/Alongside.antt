@@ -1,5 +1,5 @@
 -- A use of the bus, and beside it the use of the same bus over devices that note their steps: both go the same way, and since a turn opened the devices have noted what was asked in it.
-use Rattle.std.proofs.Common.{◌≡◌, ℕ, zero, suc, Bool, true, false, cond, ltb, ◌⊎◌, List, [], ◌∷◌, ◌++◌, append-nil, ap₂, length, None, Option, sym, refl, ap, ◌∙◌, subst, inl, inr, arith}
+use Rattle.std.proofs.Common.{◌≡◌, ℕ, zero, suc, Bool, true, false, cond, ◌||◌, ltb, ◌⊎◌, List, [], ◌∷◌, ◌++◌, append-nil, ap₂, length, None, Option, sym, refl, ap, ◌∙◌, subst, inl, inr, arith}
 use Rattle.transfer.specs.Outcomes.{OutcomeModel}
 use Rattle.device.specs.Behaviours.{Behaviour}
 use Rattle.device.specs.Steps.{Step}
@@ -15,7 +15,7 @@ use Rattle.wire.specs.declared.wire.Signal.{Signal}
 use Rattle.wire.specs.Wires.{both, levels_of, event, signal, wire_after, busy_after}
 use Rattle.law.specs.Asked.{all_recorded, all_noted}
 use Rattle.law.specs.Banks.{Bank, each, listed, any_true}
-use Rattle.law.specs.Books.{Entry, standing_of, enters, leave_all, entry_arm_nth, Book, opens, told_at_stop, closes, book_tells, book_after}
+use Rattle.law.specs.Books.{Entry, entry_armed, enters, leave_all, entry_arm_nth, Turn, closed, opened, is_open, Book, opens, told_at_stop, closes, book_tells, book_after}
 use Rattle.law.specs.Buses.{all_pulls, Holds, ports_step, BusModel, arm_at, levels_at, after_levels, tick_at, told_at, is_at_rest}
 use Rattle.law.specs.Carrying.{Placed}
 use Rattle.law.specs.Laws.{Watch, watching, sees, notes_lost, longer, Clocked, Call, arms, ticks, runs, Use, event_at, marks_of, asks_at, nothing_asked, asked_then, ticks_once, run_on, calls, used, placed_at, beginning, Law}
@@ -58,27 +58,27 @@ module _ (hs : List HostBehaviour) (ds : List Behaviour) (P : Use hs ds → Type
 
 module _ (hs : List HostBehaviour) where
   -- the entries and the turn after a tick, by what they were and who is told
-  abbrev entries_after : Bank Entry hs → Bool → Event → List (Option OutcomeModel) → Bank Entry hs
-  entries_after es v SteadyHigh ts = cond v es (cond (any_true (listed standing_of hs es)) (each enters hs es) es)
-  entries_after es v Stop ts = cond v (leave_all hs es ts) es
+  abbrev entries_after : Bank Entry hs → Turn → Event → List (Option OutcomeModel) → Bank Entry hs
+  entries_after es v SteadyHigh ts = cond (is_open v) es (cond (any_true (listed entry_armed hs es)) (each enters hs es) es)
+  entries_after es v Stop ts = cond (is_open v) (leave_all hs es ts) es
   entries_after es v (Rise x) ts = es
   entries_after es v Fall ts = es
   entries_after es v Start ts = es
   entries_after es v SteadyLow ts = es
 
-  abbrev turn_after : Bank Entry hs → Bool → Event → Bool
-  turn_after es v SteadyHigh = cond v true (any_true (listed standing_of hs es))
-  turn_after es v Stop = false
+  abbrev turn_after : Bank Entry hs → Turn → Event → Turn
+  turn_after es v SteadyHigh = cond (is_open v || any_true (listed entry_armed hs es)) opened closed
+  turn_after es v Stop = closed
   turn_after es v (Rise x) = v
   turn_after es v Fall = v
   turn_after es v Start = v
   turn_after es v SteadyLow = v
 
-  abbrev watched_by : Watch → Bool → Bool → Bank Entry hs → Event → Watch
-  watched_by w v u es e = cond v (sees w e) (cond u (watching 0 false (listed (λ h x. false) hs es) None []) (sees w e))
+  abbrev watched_by : Watch → Turn → Turn → Bank Entry hs → Event → Watch
+  watched_by w v u es e = cond (is_open v) (sees w e) (cond (is_open u) (watching 0 false (listed (λ h x. false) hs es) None []) (sees w e))
 
-  not_stop : (es : Bank Entry hs) (v : Bool) (e : Event) → turn_after es v e ≡ true → e ≡ Stop → ⊥
-  not_stop es v e h k = let z : true ≡ false = sym h ∙ ap (turn_after es v) k in cc
+  not_stop : (es : Bank Entry hs) (v : Turn) (e : Event) → turn_after es v e ≡ opened → e ≡ Stop → ⊥
+  not_stop es v e h k = let z : opened ≡ closed = sym h ∙ ap (turn_after es v) k in cc
 
 module _ (hs : List HostBehaviour) (ds : List Behaviour) where
   pub one_more : (x : Use hs ds) (cs : List (Call hs ds)) (c : Call hs ds) → used hs ds x (cs ++ (c ∷ [])) ≡ calls hs ds (used hs ds x cs) c
@@ -86,29 +86,29 @@ module _ (hs : List HostBehaviour) (ds : List Behaviour) where
   one_more x (b ∷ cs) c = one_more (calls hs ds x b) cs c
 
   abbrev opening : Book hs ds → Book hs ds
-  opening b = record { entries = each enters hs b.entries; devices = b.devices; turn = true }
+  opening b = record { entries = each enters hs b.entries; devices = b.devices; turn = opened }
 
-  opens_entries : (b : Book hs ds) (v : Bool) → (opens hs ds b v).entries ≡ entries_after hs b.entries v SteadyHigh []
-  opens_entries b true = refl
-  opens_entries b false = go (any_true (listed standing_of hs b.entries)) where
+  opens_entries : (b : Book hs ds) (v : Turn) → (opens hs ds b v).entries ≡ entries_after hs b.entries v SteadyHigh []
+  opens_entries b opened = refl
+  opens_entries b closed = go (any_true (listed entry_armed hs b.entries)) where
     go : (w : Bool) → (cond w (opening b) b).entries ≡ cond w (each enters hs b.entries) b.entries
     go true = refl
     go false = refl
 
-  opens_turn : (b : Book hs ds) (v : Bool) → b.turn ≡ v → (opens hs ds b v).turn ≡ turn_after hs b.entries v SteadyHigh
-  opens_turn b true e = e
-  opens_turn b false e = go (any_true (listed standing_of hs b.entries)) where
-    go : (w : Bool) → (cond w (opening b) b).turn ≡ w
+  opens_turn : (b : Book hs ds) (v : Turn) → b.turn ≡ v → (opens hs ds b v).turn ≡ turn_after hs b.entries v SteadyHigh
+  opens_turn b opened e = e
+  opens_turn b closed e = go (any_true (listed entry_armed hs b.entries)) where
+    go : (w : Bool) → (cond w (opening b) b).turn ≡ cond w opened closed
     go true = refl
     go false = e
 
-  closes_entries : (b : Book hs ds) (v : Bool) → (closes hs ds b v).entries ≡ cond v (leave_all hs b.entries (told_at_stop hs ds b v)) b.entries
-  closes_entries b true = refl
-  closes_entries b false = refl
+  closes_entries : (b : Book hs ds) (v : Turn) → (closes hs ds b v).entries ≡ cond (is_open v) (leave_all hs b.entries (told_at_stop hs ds b v)) b.entries
+  closes_entries b opened = refl
+  closes_entries b closed = refl
 
-  closes_turn : (b : Book hs ds) (v : Bool) → b.turn ≡ v → (closes hs ds b v).turn ≡ false
-  closes_turn b true e = refl
-  closes_turn b false e = e
+  closes_turn : (b : Book hs ds) (v : Turn) → b.turn ≡ v → (closes hs ds b v).turn ≡ closed
+  closes_turn b opened e = refl
+  closes_turn b closed e = e
 
   pub entries_are : (b : Book hs ds) (e : Event) → (book_after hs ds b e).entries ≡ entries_after hs b.entries b.turn e (book_tells hs ds b e)
   entries_are b SteadyHigh = opens_entries b b.turn
@@ -127,9 +127,9 @@ module _ (hs : List HostBehaviour) (ds : List Behaviour) where
   turn_is b SteadyLow = refl
 
   -- only a stop that closes a turn changes the devices
-  opens_devices : (b : Book hs ds) (v : Bool) → (opens hs ds b v).devices ≡ b.devices
-  opens_devices b true = refl
-  opens_devices b false = go (any_true (listed standing_of hs b.entries)) where
+  opens_devices : (b : Book hs ds) (v : Turn) → (opens hs ds b v).devices ≡ b.devices
+  opens_devices b opened = refl
+  opens_devices b closed = go (any_true (listed entry_armed hs b.entries)) where
     go : (w : Bool) → (cond w (opening b) b).devices ≡ b.devices
     go true = refl
     go false = refl
@@ -161,7 +161,7 @@ module _ (W : Script) (D : Side) (left : W.Cursor → ℕ) (Same : W.Cursor → 
   at_rest _ _ _ _ _ _ (high u os s0 l v sp cs k r s d c f n e j o z' m g q y) z = cc
 
 -- so the ports, but for what they hold, are those of the book's devices
-pub ports_at_rest : (hs : List HostBehaviour) (ds : List Behaviour) (x : Use hs ds) → StandsAt hs ds x → x.book.turn ≡ false → each unheld ds x.bus.ports ≡ idle_ports ds x.book.devices
+pub ports_at_rest : (hs : List HostBehaviour) (ds : List Behaviour) (x : Use hs ds) → StandsAt hs ds x → x.book.turn ≡ closed → each unheld ds x.bus.ports ≡ idle_ports ds x.book.devices
 ports_at_rest hs ds x st e = let z = used_as hs ds x in
     at_rest transfers (ports_side ds) slots_left Alike Legal (Idle ds) z.bus z.book.armed z.book.side z.book.turn z.watch st.0 st.1 (ap (λ v. turn_if v (contenders hs x.book.entries)) e)
 
@@ -219,7 +219,7 @@ module _ (hs : List HostBehaviour) (ds : List Behaviour) where
   noted_bare u a = steps_noted ds u.ports (signal u.wire (levels_at hs es u)) a ∙ ap (λ v. longer (noted_by ds u.ports) (listed (λ b q. asks b q (signal u.wire v)) ds (bare_ports ds u.ports))) (levels_bare u)
 
   abbrev asked_so_far : Use hs ds → List (List Step)
-  asked_so_far x = cond x.book.turn x.asked (nothing_asked hs ds x.bus)
+  asked_so_far x = cond (is_open x.book.turn) x.asked (nothing_asked hs ds x.bus)
 
   -- two uses that go the same way
   pub record Alongside (y : Use hs es) (x : Use hs ds) : Type 0 where
@@ -248,9 +248,9 @@ module _ (hs : List HostBehaviour) (ds : List Behaviour) where
 
     long : length (asked_so_far x) ≡ length ds
     long = go x.book.turn where
-      go : (v : Bool) → length (cond v x.asked (nothing_asked hs ds x.bus)) ≡ length ds
-      go true = s.many
-      go false = length_listed (List Step) (λ b p. []) ds x.bus.ports
+      go : (v : Turn) → length (cond (is_open v) x.asked (nothing_asked hs ds x.bus)) ≡ length ds
+      go opened = s.many
+      go closed = length_listed (List Step) (λ b p. []) ds x.bus.ports
 
     pub asked_many : length (asked_then hs ds x) ≡ length ds
     asked_many = length_longer (asked_so_far x) (asks_at hs ds x.bus) ∙ long
@@ -261,11 +261,11 @@ module _ (hs : List HostBehaviour) (ds : List Behaviour) where
         ∙ (ap (λ l. longer l (asks_at hs ds x.bus)) s.noted ∙ longer_longer (all_noted ds y.book.devices) (asked_so_far x) (asks_at hs ds x.bus) (let z = long in let w = length_noted ds y.book.devices in omega arith)))
 
   -- at rest nothing is noted but what the book's devices have
-  noted_at_rest : (y : Use hs es) (x : Use hs ds) → y.book.turn ≡ false → x.book.turn ≡ false → StandsAt hs es y → noted_by ds y.bus.ports ≡ longer (all_noted ds y.book.devices) (asked_so_far x)
+  noted_at_rest : (y : Use hs es) (x : Use hs ds) → y.book.turn ≡ closed → x.book.turn ≡ closed → StandsAt hs es y → noted_by ds y.bus.ports ≡ longer (all_noted ds y.book.devices) (asked_so_far x)
   noted_at_rest y x e f st =
       sym (noted_unheld ds y.bus.ports)
       ∙ (ap (noted_by ds) (ports_at_rest hs es y st e)
-      ∙ (noted_idle ds y.book.devices ∙ (sym (longer_nothing ds y.book.devices x.bus.ports) ∙ ap (λ v. longer (all_noted ds y.book.devices) (cond v x.asked (nothing_asked hs ds x.bus))) (sym f))))
+      ∙ (noted_idle ds y.book.devices ∙ (sym (longer_nothing ds y.book.devices x.bus.ports) ∙ ap (λ v. longer (all_noted ds y.book.devices) (cond (is_open v) x.asked (nothing_asked hs ds x.bus))) (sym f))))
 
   module _ (y : Use hs es) (x : Use hs ds) (n : ℕ) (s : Alongside y x) where
     armed_alongside : Alongside (calls hs es y (arms n)) (calls hs ds x (arms n))
@@ -324,12 +324,12 @@ module _ (hs : List HostBehaviour) (ds : List Behaviour) where
       | inr k ↦ ports_stay ds x.bus.ports (signal x.bus.wire (levels_at hs ds x.bus)) a ∙ (s.places ∙ ap (device_places ds) (sym (devices_stay hs ds x.book f k)))
     ]
 
-    noted_if : (v : Bool) → now.book.turn ≡ v → noted_by ds then.bus.ports ≡ longer (all_noted ds then.book.devices) (asked_so_far now)
-    noted_if false k = noted_at_rest then now (turn ∙ k) k st
-    noted_if true k =
+    noted_if : (v : Turn) → now.book.turn ≡ v → noted_by ds then.bus.ports ≡ longer (all_noted ds then.book.devices) (asked_so_far now)
+    noted_if closed k = noted_at_rest then now (turn ∙ k) k st
+    noted_if opened k =
         let still_open = sym (turn_is hs es y.book e) ∙ (turn ∙ k) in
         asked_noted y x s a ∙ (ap (λ d. longer (all_noted ds d) (asked_then hs ds x)) (sym (devices_stay hs es y.book e (not_stop hs y.book.entries y.book.turn e still_open)))
-        ∙ ap (λ v. longer (all_noted ds then.book.devices) (cond v now.asked (nothing_asked hs ds now.bus))) (sym k))
+        ∙ ap (λ v. longer (all_noted ds then.book.devices) (cond (is_open v) now.asked (nothing_asked hs ds now.bus))) (sym k))
 
     ticked_alongside : Alongside then now
     ticked_alongside = record {

@@ -17,7 +17,7 @@ use Rattle.wire.specs.declared.wire.Event.TheVariants.{Fall}
 use Rattle.wire.specs.Wires.{signal, busy_after}
 use Rattle.law.specs.Asked.{all_recorded, all_unnoted, all_noted, steps_alone, leg_of, acknowledge_at, Acknowledged, OfSome, handed_over, called_before, read_before, all_at, JoinedFrom, Contends, StillIn, HearsA, AskedLaw, EveryAsked}
 use Rattle.law.specs.Banks.{Bank, each, listed}
-use Rattle.law.specs.Books.{book_tells, book_after}
+use Rattle.law.specs.Books.{opened, is_open, book_tells, book_after}
 use Rattle.law.specs.Buses.{no_holds, levels_at, told_at}
 use Rattle.law.specs.Carrying.{Placed, carried}
 use Rattle.law.specs.Facts.{read_leg}
@@ -143,19 +143,19 @@ module _ (hs : List HostBehaviour) (ds : List Behaviour) where
         ∙ (sym (places_to es ds (forgetting ds) y.bus.ports) ∙ ap (λ u. port_places ds u.ports) s.bus)
 
     -- a fall in an open turn
-    module _ (open_turn : x.book.turn ≡ true) (falls : event_at hs ds x.bus ≡ Fall) where
+    module _ (open_turn : x.book.turn ≡ opened) (falls : event_at hs ds x.bus ≡ Fall) where
       falls_too : event_at hs es y.bus ≡ Fall
       falls_too = same_event hs ds y x s ∙ falls
 
       same_book : then.book ≡ y.book
       same_book = ap (book_after hs es y.book) falls_too
 
-      turn_too : then.book.turn ≡ true
+      turn_too : then.book.turn ≡ opened
       turn_too = ap (λ b. b.turn) same_book ∙ (s.turn ∙ open_turn)
 
-      saw : (F : List Behaviour) (z : Use hs F) → z.book.turn ≡ true → event_at hs F z.bus ≡ Fall → watched hs F z.watch z.book (event_at hs F z.bus) ≡ sees z.watch Fall
+      saw : (F : List Behaviour) (z : Use hs F) → z.book.turn ≡ opened → event_at hs F z.bus ≡ Fall → watched hs F z.watch z.book (event_at hs F z.bus) ≡ sees z.watch Fall
       saw F z o e = ap (watched hs F z.watch z.book) e
-          ∙ ap (λ v. cond v (sees z.watch Fall) (cond (book_after hs F z.book Fall).turn (watching 0 false (listed (λ h q. false) hs z.book.entries) None []) (sees z.watch Fall))) o
+          ∙ ap (λ v. cond (is_open v) (sees z.watch Fall) (cond (is_open (book_after hs F z.book Fall).turn) (watching 0 false (listed (λ h q. false) hs z.book.entries) None []) (sees z.watch Fall))) o
 
       saw_too : watched hs es y.watch y.book (event_at hs es y.bus) ≡ sees x.watch Fall
       saw_too = saw es y (s.turn ∙ open_turn) falls_too ∙ ap (λ w. sees w Fall) s.watch

@@ -1,15 +1,18 @@
 -- The turn book as the book of the law, and that both go the same way at every call and event.
-use Rattle.std.proofs.Common.{◌≡◌, ℕ, zero, suc, Bool, true, false, cond, List, [], ◌∷◌, is_some, Some, None, Option, sym, refl, ap, ◌∙◌, ap₂, arith}
+use Rattle.std.proofs.Common.{◌≡◌, ℕ, zero, suc, Bool, true, false, cond, List, [], ◌∷◌, is_some, Some, None, Option, Result, sym, refl, ap, ◌∙◌, ap₂, arith}
 use Rattle.std.specs.Option.{option_map}
 use Rattle.transfer.specs.declared.draft.Transfer.{Transfer}
 use Rattle.transfer.specs.Drafts.{TransferModel, transfer_model}
 use Rattle.transfer.specs.Outcomes.{OutcomeModel}
 use Rattle.device.specs.Behaviours.{Behaviour}
 use Rattle.host.specs.Behaviours.{HostBehaviour}
+use Rattle.master.specs.declared.arming.Arming.{Arming}
+use Rattle.master.specs.declared.arming.Arming.TheVariants.{Unarmed, Armed}
 use Rattle.wire.specs.declared.wire.Event.{Event}
 use Rattle.wire.specs.declared.wire.Event.TheVariants.{Rise, Fall, Start, Stop, SteadyHigh, SteadyLow}
+use Rattle.master.specs.Armings.{is_armed, armed_by}
 use Rattle.law.specs.Banks.{Bank, each, listed, any_true}
-use Rattle.law.specs.Books.{Standing, unarmed, armed, is_armed, Entry, standing_of, entry_arms, enters, wanted_if, contends_with, leaves, entry_arm_nth, leave_all, least, told_all, devices_after, Book, book_arm, contests, opens, told_at_stop, closes, book_tells, book_after}
+use Rattle.law.specs.Books.{Entry, entry_armed, enters, wanted_if, contends_with, leaves, entry_arm_nth, leave_all, least, told_all, devices_after, Turn, closed, opened, Book, book_arm, contests, opens, told_at_stop, closes, book_tells, book_after}
 use Rattle.law.specs.Carrying.{Placed, carried}
 use Rattle.port.specs.Ports.{PortModel}
 use Rattle.master.specs.Scripts.{transfers}
@@ -25,7 +28,7 @@ meaning_of h x = x.meaning
 
 -- the task of a master that is armed
 abbrev pub task_of : (h : HostBehaviour) → Entry h → Option TransferModel
-task_of h x = wanted_if h (is_armed x.standing) (h.want x.meaning)
+task_of h x = wanted_if h (entry_armed h x) (h.want x.meaning)
 
 abbrev pub tasks : (hs : List HostBehaviour) → Bank Entry hs → List (Option TransferModel)
 tasks hs es = listed task_of hs es
@@ -36,64 +39,62 @@ contenders hs es = listed contends_with hs es
 abbrev pub meanings : (hs : List HostBehaviour) → Bank Entry hs → Meanings hs
 meanings hs es = each meaning_of hs es
 
-abbrev pub turn_if : Bool → List (Option TransferModel) → Option (List (Option TransferModel))
-turn_if true l = Some l
-turn_if false l = None
+abbrev pub turn_if : Turn → List (Option TransferModel) → Option (List (Option TransferModel))
+turn_if opened l = Some l
+turn_if closed l = None
 
 -- who is armed wants something
-abbrev pub WantsIf : Standing → Option Transfer → Type 0
-WantsIf unarmed w = Unit {0}
-WantsIf armed w = is_some w ≡ true
+abbrev pub WantsIf : Arming (Unit {0}) → Option Transfer → Type 0
+WantsIf Unarmed w = Unit {0}
+WantsIf (Armed t) w = is_some w ≡ true
+
+-- what arming comes to, where the host wants w
+abbrev arms_by : Arming (Unit {0}) → Option Transfer → Result (Unit {0}) ℕ × Arming (Unit {0})
+arms_by a w = armed_by a (option_map (λ t. tt) w)
 
 abbrev pub Kept : (hs : List HostBehaviour) → Bank Entry hs → Type 0
 Kept [] es = Unit {0}
-Kept (h ∷ hs) es = WantsIf es.0.standing (h.want es.0.meaning) × Kept hs es.1
+Kept (h ∷ hs) es = WantsIf es.0.arming (h.want es.0.meaning) × Kept hs es.1
 
 -- an arm
-arms_one : (h : HostBehaviour) (x : Entry h) (s : Standing) (w : Option Transfer) → x.standing ≡ s → h.want x.meaning ≡ w →
-    task_of h (entry_arms h x s w).1 ≡ armed_if (wanted_if h (is_armed s) w) (option_map transfer_model w)
-arms_one h x s w k e = grind arith
+arms_one : (h : HostBehaviour) (a : Arming (Unit {0})) (w : Option Transfer) →
+    wanted_if h (is_armed (arms_by a w).1) w ≡ armed_if (wanted_if h (is_armed a) w) (option_map transfer_model w)
+arms_one h a w = grind arith
 
 pub arm_tasks : (hs : List HostBehaviour) (es : Bank Entry hs) (n : ℕ) → tasks hs (entry_arm_nth hs es n).1 ≡ arm_book (tasks hs es) (wants_of hs (meanings hs es)) n
 arm_tasks [] es n = refl
-arm_tasks (h ∷ hs) es zero = ap (λ o. o ∷ tasks hs es.1) (arms_one h es.0 es.0.standing (h.want es.0.meaning) refl refl)
+arm_tasks (h ∷ hs) es zero = ap (λ o. o ∷ tasks hs es.1) (arms_one h es.0.arming (h.want es.0.meaning))
 arm_tasks (h ∷ hs) es (suc n) = ap (λ l. task_of h es.0 ∷ l) (arm_tasks hs es.1 n)
-
-arms_meaning : (h : HostBehaviour) (x : Entry h) (s : Standing) (w : Option Transfer) → (entry_arms h x s w).1.meaning ≡ x.meaning
-arms_meaning h x s w = grind arith
-
-arms_contends : (h : HostBehaviour) (x : Entry h) (s : Standing) (w : Option Transfer) → contends_with h (entry_arms h x s w).1 ≡ contends_with h x
-arms_contends h x s w = grind arith
 
 pub arm_meanings : (hs : List HostBehaviour) (es : Bank Entry hs) (n : ℕ) → meanings hs (entry_arm_nth hs es n).1 ≡ meanings hs es
 arm_meanings [] es n = refl
-arm_meanings (h ∷ hs) es zero = ap (λ m. (m, meanings hs es.1)) (arms_meaning h es.0 es.0.standing (h.want es.0.meaning))
+arm_meanings (h ∷ hs) es zero = refl
 arm_meanings (h ∷ hs) es (suc n) = ap (λ r. (es.0.meaning, r)) (arm_meanings hs es.1 n)
 
 pub arm_contenders : (hs : List HostBehaviour) (es : Bank Entry hs) (n : ℕ) → contenders hs (entry_arm_nth hs es n).1 ≡ contenders hs es
 arm_contenders [] es n = refl
-arm_contenders (h ∷ hs) es zero = ap (λ o. o ∷ contenders hs es.1) (arms_contends h es.0 es.0.standing (h.want es.0.meaning))
+arm_contenders (h ∷ hs) es zero = refl
 arm_contenders (h ∷ hs) es (suc n) = grind (arith, arm_contenders hs es.1 n)
 
-answers_one : (h : HostBehaviour) (x : Entry h) (s : Standing) (w : Option Transfer) → WantsIf s w → (entry_arms h x s w).0 ≡ answer_if (wanted_if h (is_armed s) w) (option_map transfer_model w)
-answers_one h x s w k = grind arith
+answers_one : (h : HostBehaviour) (a : Arming (Unit {0})) (w : Option Transfer) → WantsIf a w →
+    (arms_by a w).0 ≡ answer_if (wanted_if h (is_armed a) w) (option_map transfer_model w)
+answers_one h a w k = grind arith
 
 pub arm_answers : (hs : List HostBehaviour) (es : Bank Entry hs) (n : ℕ) → Kept hs es → (entry_arm_nth hs es n).0 ≡ answer (tasks hs es) (wants_of hs (meanings hs es)) n
 arm_answers [] es n k = refl
-arm_answers (h ∷ hs) es zero k = answers_one h es.0 es.0.standing (h.want es.0.meaning) k.0
+arm_answers (h ∷ hs) es zero k = answers_one h es.0.arming (h.want es.0.meaning) k.0
 arm_answers (h ∷ hs) es (suc n) k = arm_answers hs es.1 n k.1
 
-kept_arms : (h : HostBehaviour) (x : Entry h) (s : Standing) (w : Option Transfer) → x.standing ≡ s → h.want x.meaning ≡ w → WantsIf s w →
-    WantsIf (entry_arms h x s w).1.standing (h.want (entry_arms h x s w).1.meaning)
-kept_arms h x s w k e d = grind arith
+kept_arms : (a : Arming (Unit {0})) (w : Option Transfer) → WantsIf a w → WantsIf (arms_by a w).1 w
+kept_arms a w k = grind arith
 
 pub arm_kept : (hs : List HostBehaviour) (es : Bank Entry hs) (n : ℕ) → Kept hs es → Kept hs (entry_arm_nth hs es n).1
 arm_kept [] es n k = tt
-arm_kept (h ∷ hs) es zero k = (kept_arms h es.0 es.0.standing (h.want es.0.meaning) refl refl k.0, k.1)
+arm_kept (h ∷ hs) es zero k = (kept_arms es.0.arming (h.want es.0.meaning) k.0, k.1)
 arm_kept (h ∷ hs) es (suc n) k = (k.0, arm_kept hs es.1 n k.1)
 
 -- a turn opens
-pub any_armed : (hs : List HostBehaviour) (es : Bank Entry hs) → Kept hs es → any (tasks hs es) ≡ any_true (listed standing_of hs es)
+pub any_armed : (hs : List HostBehaviour) (es : Bank Entry hs) → Kept hs es → any (tasks hs es) ≡ any_true (listed entry_armed hs es)
 any_armed [] es k = refl
 any_armed (h ∷ hs) es k = grind (arith, any_armed hs es.1 k.1)
 
@@ -165,7 +166,7 @@ module _ (hs : List HostBehaviour) (ds : List Behaviour) where
   -- who is armed wants something, and an open turn has a contender
   pub record Sound (b : Book hs ds) : Type 0 where
     pub kept : Kept hs b.entries
-    pub contended : b.turn ≡ true → any (contenders hs b.entries) ≡ true
+    pub contended : b.turn ≡ opened → any (contenders hs b.entries) ≡ true
 
   pub contests_of : (b : Book hs ds) → contests hs ds b ≡ carry_all ds b.devices (contenders hs b.entries)
   contests_of b = contests_are ds b.devices hs b.entries
@@ -178,42 +179,42 @@ module _ (hs : List HostBehaviour) (ds : List Behaviour) where
   pub armed_sound : (b : Book hs ds) (n : ℕ) → Sound b → Sound (book_arm hs ds b n).1
   armed_sound b n k = record { kept = arm_kept hs b.entries n k.kept; contended = λ e. ap any (arm_contenders hs b.entries n) ∙ k.contended e }
 
-  abbrev of_parts : Bank Entry hs → Bank Placed ds → Bool → Book hs ds
+  abbrev of_parts : Bank Entry hs → Bank Placed ds → Turn → Book hs ds
   of_parts es d v = record { entries = es; devices = d; turn = v }
 
   abbrev law_book : Meanings hs → List (Option TransferModel) → Bank PortModel ds → Option (List (Option TransferModel)) → LawBook transfers (ports_side ds) (all_hosts hs)
   law_book m os s t = book transfers (ports_side ds) (all_hosts hs) m os s t
 
   opens_if : (es : Bank Entry hs) (d : Bank Placed ds) (w : Bool) →
-      booked (cond w (of_parts (each enters hs es) d true) (of_parts es d false)) ≡ law_book (meanings hs es) (tasks hs es) (idle_ports ds d) (cond w (Some (tasks hs es)) None)
+      booked (cond w (of_parts (each enters hs es) d opened) (of_parts es d closed)) ≡ law_book (meanings hs es) (tasks hs es) (idle_ports ds d) (cond w (Some (tasks hs es)) None)
   opens_if es d true = λ i. law_book (enter_meanings hs es i) (enter_tasks hs es i) (idle_ports ds d) (Some (enter_contenders hs es i))
   opens_if es d false = refl
 
-  opens_booked : (es : Bank Entry hs) (d : Bank Placed ds) (v : Bool) → Kept hs es →
+  opens_booked : (es : Bank Entry hs) (d : Bank Placed ds) (v : Turn) → Kept hs es →
       booked (opens hs ds (of_parts es d v) v) ≡ feed transfers (ports_side ds) slots_left (all_hosts hs) (booked (of_parts es d v)) SteadyHigh
-  opens_booked es d true k = refl
-  opens_booked es d false k =
-      opens_if es d (any_true (listed standing_of hs es))
+  opens_booked es d opened k = refl
+  opens_booked es d closed k =
+      opens_if es d (any_true (listed entry_armed hs es))
       ∙ ap (λ w. law_book (meanings hs es) (tasks hs es) (idle_ports ds d) (cond w (Some (tasks hs es)) None)) (sym (any_armed hs es k))
 
   -- whom an open turn tells at its stop
   stop_told : (es : Bank Entry hs) (d : Bank Placed ds) →
-      told_at_stop hs ds (of_parts es d true) true ≡ stop_tells transfers (ports_side ds) slots_left (all_hosts hs) (tasks hs es) (idle_ports ds d) (Some (contenders hs es))
+      told_at_stop hs ds (of_parts es d opened) opened ≡ stop_tells transfers (ports_side ds) slots_left (all_hosts hs) (tasks hs es) (idle_ports ds d) (Some (contenders hs es))
   stop_told es d =
-      ap (λ cs. told_all ds (least ds cs) cs) (contests_of (of_parts es d true))
+      ap (λ cs. told_all ds (least ds cs) cs) (contests_of (of_parts es d opened))
       ∙ told_are ds d (contenders hs es) (contenders_legal hs es)
 
-  closes_booked : (es : Bank Entry hs) (d : Bank Placed ds) (v : Bool) → (v ≡ true → any (contenders hs es) ≡ true) →
+  closes_booked : (es : Bank Entry hs) (d : Bank Placed ds) (v : Turn) → (v ≡ opened → any (contenders hs es) ≡ true) →
       booked (closes hs ds (of_parts es d v) v) ≡ feed transfers (ports_side ds) slots_left (all_hosts hs) (booked (of_parts es d v)) Stop
-  closes_booked es d false h = refl
-  closes_booked es d true h =
-      let ts = told_at_stop hs ds (of_parts es d true) true in
+  closes_booked es d closed h = refl
+  closes_booked es d opened h =
+      let ts = told_at_stop hs ds (of_parts es d opened) opened in
       let us = stop_tells transfers (ports_side ds) slots_left (all_hosts hs) (tasks hs es) (idle_ports ds d) (Some (contenders hs es)) in
       let told = stop_told es d in
       let hosts : meanings hs (leave_all hs es ts) ≡ hears_all hs (meanings hs es) us = leave_meanings hs es ts ∙ ap (hears_all hs (meanings hs es)) told in
       let armed : tasks hs (leave_all hs es ts) ≡ disarm (tasks hs es) us = leave_tasks hs es ts ∙ ap (disarm (tasks hs es)) told in
       let q = somebody_leads ds d (contenders hs es) (h refl) in
-      let side = ap (λ cs. idle_ports ds (devices_after ds (least ds cs) d)) (contests_of (of_parts es d true)) ∙ devices_are ds d (contenders hs es) q.0 (contenders_legal hs es) q.1 in
+      let side = ap (λ cs. idle_ports ds (devices_after ds (least ds cs) d)) (contests_of (of_parts es d opened)) ∙ devices_are ds d (contenders hs es) q.0 (contenders_legal hs es) q.1 in
       λ i. law_book (hosts i) (armed i) (side i) None
 
   pub fed_booked : (b : Book hs ds) (e : Event) → Sound b → booked (book_after hs ds b e) ≡ feed transfers (ports_side ds) slots_left (all_hosts hs) (booked b) e
@@ -224,10 +225,10 @@ module _ (hs : List HostBehaviour) (ds : List Behaviour) where
   fed_booked b Start k = refl
   fed_booked b SteadyLow k = refl
 
-  stop_tells_booked : (es : Bank Entry hs) (d : Bank Placed ds) (v : Bool) →
+  stop_tells_booked : (es : Bank Entry hs) (d : Bank Placed ds) (v : Turn) →
       told_at_stop hs ds (of_parts es d v) v ≡ stop_tells transfers (ports_side ds) slots_left (all_hosts hs) (tasks hs es) (idle_ports ds d) (turn_if v (contenders hs es))
-  stop_tells_booked es d true = stop_told es d
-  stop_tells_booked es d false = nobody_is hs es
+  stop_tells_booked es d opened = stop_told es d
+  stop_tells_booked es d closed = nobody_is hs es
 
   pub tells_booked : (b : Book hs ds) (e : Event) → book_tells hs ds b e ≡ law_tells transfers (ports_side ds) slots_left (all_hosts hs) (booked b) e
   tells_booked b Stop = stop_tells_booked b.entries b.devices b.turn
@@ -237,22 +238,23 @@ module _ (hs : List HostBehaviour) (ds : List Behaviour) where
   tells_booked b Start = nobody_is hs b.entries
   tells_booked b SteadyLow = nobody_is hs b.entries
 
-  opens_sound : (es : Bank Entry hs) (d : Bank Placed ds) (v w : Bool) → any_true (listed standing_of hs es) ≡ w → Sound (of_parts es d v) →
-      Sound (cond w (of_parts (each enters hs es) d true) (of_parts es d v))
+  opens_sound : (es : Bank Entry hs) (d : Bank Placed ds) (v : Turn) (w : Bool) → any_true (listed entry_armed hs es) ≡ w →
+      Sound (of_parts es d v) →
+      Sound (cond w (of_parts (each enters hs es) d opened) (of_parts es d v))
   opens_sound es d v true e k = record {
     kept = enter_kept hs es k.kept;
     contended = λ t. ap any (enter_contenders hs es) ∙ (any_armed hs es k.kept ∙ e);
   }
   opens_sound es d v false e k = k
 
-  fed_open : (es : Bank Entry hs) (d : Bank Placed ds) (v : Bool) → Sound (of_parts es d v) → Sound (opens hs ds (of_parts es d v) v)
-  fed_open es d true k = k
-  fed_open es d false k = opens_sound es d false (any_true (listed standing_of hs es)) refl k
+  fed_open : (es : Bank Entry hs) (d : Bank Placed ds) (v : Turn) → Sound (of_parts es d v) → Sound (opens hs ds (of_parts es d v) v)
+  fed_open es d opened k = k
+  fed_open es d closed k = opens_sound es d closed (any_true (listed entry_armed hs es)) refl k
 
-  fed_closed : (es : Bank Entry hs) (d : Bank Placed ds) (v : Bool) → Sound (of_parts es d v) → Sound (closes hs ds (of_parts es d v) v)
-  fed_closed es d false k = k
-  fed_closed es d true k = record {
-    kept = leave_kept hs es (told_at_stop hs ds (of_parts es d true) true) k.kept;
+  fed_closed : (es : Bank Entry hs) (d : Bank Placed ds) (v : Turn) → Sound (of_parts es d v) → Sound (closes hs ds (of_parts es d v) v)
+  fed_closed es d closed k = k
+  fed_closed es d opened k = record {
+    kept = leave_kept hs es (told_at_stop hs ds (of_parts es d opened) opened) k.kept;
     contended = λ t. cc;
   }
 

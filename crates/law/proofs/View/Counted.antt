@@ -6,7 +6,7 @@ use Rattle.host.specs.Behaviours.{HostBehaviour}
 use Rattle.master.specs.declared.mark.Mark.TheVariants.{Quiet, Lost}
 use Rattle.wire.specs.declared.wire.Signal.{Signal}
 use Rattle.law.specs.Banks.{Bank, each, listed, any_true}
-use Rattle.law.specs.Books.{Entry, standing_of}
+use Rattle.law.specs.Books.{Entry, entry_armed}
 use Rattle.law.specs.Buses.{Holds, tick_at, told_at, is_at_rest}
 use Rattle.master.specs.Serving.{Served, served_armed, served_mark, served_pulls}
 use Rattle.law.specs.Carrying.{Placed}
@@ -37,7 +37,7 @@ pub masters_armed : (hs : List HostBehaviour) (ms : Bank Served hs) → somes (a
 masters_armed [] ms = refl
 masters_armed (h ∷ hs) ms = grind (arith, masters_armed hs ms.1)
 
-pub entries_armed : (hs : List HostBehaviour) (es : Bank Entry hs) → Kept hs es → somes (tasks hs es) ≡ listed standing_of hs es
+pub entries_armed : (hs : List HostBehaviour) (es : Bank Entry hs) → Kept hs es → somes (tasks hs es) ≡ listed entry_armed hs es
 entries_armed [] es k = refl
 entries_armed (h ∷ hs) es k = grind (arith, entries_armed hs es.1 k.1)
 

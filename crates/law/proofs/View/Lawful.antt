@@ -8,7 +8,7 @@ use Rattle.host.specs.Behaviours.{HostBehaviour}
 use Rattle.master.specs.declared.mark.Mark.TheVariants.{Quiet, Lost}
 use Rattle.wire.specs.declared.wire.Event.TheVariants.{Stop}
 use Rattle.law.specs.Banks.{Bank, listed, any_true}
-use Rattle.law.specs.Books.{standing_of, Book, book_arm, contests, least}
+use Rattle.law.specs.Books.{entry_armed, Turn, opened, Book, book_arm, contests, least}
 use Rattle.law.specs.Buses.{BusModel, Holds, arm_at, levels_at, told_at}
 use Rattle.law.specs.Carrying.{Carried}
 use Rattle.law.specs.Laws.{Call, runs, Use, event_at, marks_of, watched, calls, used, run_on, ticks_of_run, ticks_of_call, ticks_of, armed_now, how_many_true, Point, Loses, Stopped, TickLaw, Law}
@@ -49,13 +49,13 @@ marks_told : (hs : List HostBehaviour) (ms : Bank Served hs) (s : Signal) → ma
 marks_told [] ms s = refl
 marks_told (h ∷ hs) ms s = ap₂ ◌∷◌ (told_mark (master_step transfers ms.0.master s).1) (marks_told hs ms.1 s)
 
-turn_open : (v : Bool) (l m : List (Option TransferModel)) → turn_if v l ≡ Some m → (v ≡ true) × (l ≡ m)
+turn_open : (v : Turn) (l m : List (Option TransferModel)) → turn_if v l ≡ Some m → (v ≡ opened) × (l ≡ m)
 turn_open v l m h = grind arith
 
-turn_some : (v : Bool) (l : List (Option TransferModel)) → v ≡ true → is_some (turn_if v l) ≡ true
+turn_some : (v : Turn) (l : List (Option TransferModel)) → v ≡ opened → is_some (turn_if v l) ≡ true
 turn_some v l h = grind arith
 
-turn_is : (v : Bool) (l : List (Option TransferModel)) → v ≡ true → turn_if v l ≡ Some l
+turn_is : (v : Turn) (l : List (Option TransferModel)) → v ≡ opened → turn_if v l ≡ Some l
 turn_is v l h = grind arith
 
 module _ (hs : List HostBehaviour) (ds : List Behaviour) where
@@ -72,7 +72,7 @@ module _ (hs : List HostBehaviour) (ds : List Behaviour) where
     legal : AllLegal l
     legal = contenders_legal hs b.entries
 
-    armed_same : armed_now hs ds x ≡ listed standing_of hs b.entries
+    armed_same : armed_now hs ds x ≡ listed entry_armed hs b.entries
     armed_same = sym (masters_armed hs x.bus.masters) ∙ (ap somes law.point.armed ∙ entries_armed hs b.entries g.sound.kept)
 
     tasks_counted : count (tasks hs b.entries) ≡ how_many_true (armed_now hs ds x)
@@ -130,7 +130,7 @@ module _ (hs : List HostBehaviour) (ds : List Behaviour) where
     told_same : told_at hs ds x.bus ≡ tick_tells transfers (ports_side ds) (seen hs ds x.bus)
     told_same = told_seen hs ds x.bus
 
-    stops : event_at hs ds x.bus ≡ Stop → b.turn ≡ true → (i : ℕ) (own : Carried ds) → get_or (contests hs ds b) i None ≡ Some own → Stopped hs ds x i own
+    stops : event_at hs ds x.bus ≡ Stop → b.turn ≡ opened → (i : ℕ) (own : Carried ds) → get_or (contests hs ds b) i None ≡ Some own → Stopped hs ds x i own
     stops e o i own c =
         let mine = carried_from ds b.devices l i own (ap (λ cs. get_or cs i None) (sym (contests_of hs ds b)) ∙ c) in
         let p = mine.0 in
@@ -148,7 +148,7 @@ module _ (hs : List HostBehaviour) (ds : List Behaviour) where
           );
         }
 
-    spells : event_at hs ds x.bus ≡ Stop → b.turn ≡ true → (best : Carried ds) → least ds (contests hs ds b) ≡ Some best →
+    spells : event_at hs ds x.bus ≡ Stop → b.turn ≡ opened → (best : Carried ds) → least ds (contests hs ds b) ≡ Some best →
         (watched hs ds x.watch b (event_at hs ds x.bus)).spelled ≡ best.letters
     spells e o best c =
         let z = law.ticking.spelled (sym (event_seen hs ds x.bus) ∙ e) l (turn_is b.turn l o) in

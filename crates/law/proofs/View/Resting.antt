@@ -1,5 +1,5 @@
 -- Where no turn is open nothing is asked of a device.
-use Rattle.std.proofs.Common.{◌≡◌, Bool, false, List, [], ◌∷◌, Option, sym, refl, ap, ap₂, ◌∙◌, arith}
+use Rattle.std.proofs.Common.{◌≡◌, Bool, List, [], ◌∷◌, Option, sym, refl, ap, ap₂, ◌∙◌, arith}
 use Rattle.device.specs.Behaviours.{Behaviour}
 use Rattle.host.specs.Behaviours.{HostBehaviour}
 use Rattle.port.specs.declared.port.Mode.{Mode}
@@ -9,6 +9,7 @@ use Rattle.wire.specs.declared.wire.Event.{Event}
 use Rattle.wire.specs.declared.wire.Signal.{Signal}
 use Rattle.wire.specs.Wires.{signal}
 use Rattle.law.specs.Banks.{Bank, each, listed}
+use Rattle.law.specs.Books.{closed}
 use Rattle.law.specs.Buses.{levels_at}
 use Rattle.law.specs.Carrying.{Placed}
 use Rattle.law.specs.Laws.{Use, asks_at, nothing_asked}
@@ -34,6 +35,6 @@ all_idle : (ds : List Behaviour) (d : Bank Placed ds) (p : Bank PortModel ds) (s
 all_idle [] d p s = refl
 all_idle (b ∷ ds) d p s = ap₂ ◌∷◌ (asks_idle b d.0 s.event s.bit) (all_idle ds d.1 p.1 s)
 
-pub nothing_at_rest : (hs : List HostBehaviour) (ds : List Behaviour) (x : Use hs ds) → StandsAt hs ds x → x.book.turn ≡ false → asks_at hs ds x.bus ≡ nothing_asked hs ds x.bus
+pub nothing_at_rest : (hs : List HostBehaviour) (ds : List Behaviour) (x : Use hs ds) → StandsAt hs ds x → x.book.turn ≡ closed → asks_at hs ds x.bus ≡ nothing_asked hs ds x.bus
 nothing_at_rest hs ds x st f = let s = signal x.bus.wire (levels_at hs ds x.bus) in
     sym (all_unheld ds x.bus.ports s) ∙ (ap (listed (λ b q. asks b q s) ds) (ports_at_rest hs ds x st f) ∙ all_idle ds x.book.devices x.bus.ports s)

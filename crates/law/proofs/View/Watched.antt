@@ -8,7 +8,7 @@ use Rattle.wire.specs.declared.wire.Event.{Event}
 use Rattle.wire.specs.declared.wire.Event.TheVariants.{Rise, Fall, Start, Stop, SteadyHigh, SteadyLow}
 use Rattle.wire.specs.declared.wire.Signal.{Signal}
 use Rattle.law.specs.Banks.{Bank, each, listed, any_true}
-use Rattle.law.specs.Books.{Entry, enters, standing_of, Book, book_after}
+use Rattle.law.specs.Books.{Entry, enters, entry_armed, Turn, closed, opened, is_open, Book, book_after}
 use Rattle.master.specs.Serving.{Served, served_mark, served_told, outcome_told}
 use Rattle.law.specs.Laws.{Watch, watching, sees, starts_again, marked_too, watched}
 use Rattle.master.specs.Masters.{VerdictModel}
@@ -54,16 +54,17 @@ falses_are (h ∷ hs) es = ap (λ l. false ∷ l) (falses_are hs es.1)
 
 module _ (hs : List HostBehaviour) (ds : List Behaviour) where
   opening_as : (w : Watch) (b : Book hs ds) (v : Bool) →
-      noted_as (cond (cond {A = Book hs ds} v (record { entries = each enters hs b.entries; devices = b.devices; turn = true }) (record { entries = b.entries; devices = b.devices; turn = false })).turn
+      noted_as (cond (is_open (cond {A = Book hs ds} v (record { entries = each enters hs b.entries; devices = b.devices; turn = opened })
+      (record { entries = b.entries; devices = b.devices; turn = closed })).turn)
       (watching 0 false (listed (λ h x. false) hs b.entries) None []) w)
       ≡ cond v (watch 0 false (falses (tasks hs b.entries)) (spell None [])) (noted_as w)
   opening_as w b true = ap (λ l. watch 0 false l (spell None [])) (falses_are hs b.entries)
   opening_as w b false = refl
 
   closed_as : (w : Watch) (b : Book hs ds) (e : Event) → Kept hs b.entries →
-      noted_as (cond (book_after hs ds (record { entries = b.entries; devices = b.devices; turn = false }) e).turn (watching 0 false (listed (λ h x. false) hs b.entries) None []) (sees w e))
+      noted_as (cond (is_open (book_after hs ds (record { entries = b.entries; devices = b.devices; turn = closed }) e).turn) (watching 0 false (listed (λ h x. false) hs b.entries) None []) (sees w e))
       ≡ turned transfers (noted_as w) (tasks hs b.entries) None e
-  closed_as w b SteadyHigh k = opening_as w b (any_true (listed standing_of hs b.entries))
+  closed_as w b SteadyHigh k = opening_as w b (any_true (listed entry_armed hs b.entries))
       ∙ ap (λ v. cond v (watch 0 false (falses (tasks hs b.entries)) (spell None [])) (noted_as w)) (sym (any_armed hs b.entries k))
   closed_as w b Fall k = falls_as w w.latch refl
   closed_as w b (Rise x) k = refl
@@ -71,10 +72,10 @@ module _ (hs : List HostBehaviour) (ds : List Behaviour) where
   closed_as w b Stop k = ap (λ l. watch w.falls false w.marked (spell None l)) (ranks_append w.spelled (stop ∷ []))
   closed_as w b SteadyLow k = refl
 
-  watched_parts : (w : Watch) (b : Book hs ds) (v : Bool) (e : Event) → Kept hs b.entries →
+  watched_parts : (w : Watch) (b : Book hs ds) (v : Turn) (e : Event) → Kept hs b.entries →
       noted_as (watched hs ds w (record { entries = b.entries; devices = b.devices; turn = v }) e) ≡ turned transfers (noted_as w) (tasks hs b.entries) (turn_if v (contenders hs b.entries)) e
-  watched_parts w b true e k = sees_as w (tasks hs b.entries) (contenders hs b.entries) e
-  watched_parts w b false e k = closed_as w b e k
+  watched_parts w b opened e k = sees_as w (tasks hs b.entries) (contenders hs b.entries) e
+  watched_parts w b closed e k = closed_as w b e k
 
   pub watched_as : (w : Watch) (b : Book hs ds) (e : Event) → Sound hs ds b → noted_as (watched hs ds w b e) ≡ turned transfers (noted_as w) (tasks hs b.entries) (turn_if b.turn (contenders hs b.entries)) e
   watched_as w b e k = watched_parts w b b.turn e k.kept

@@ -12,7 +12,7 @@ use Rattle.master.specs.Scripts.{Script, transfers}
 use Rattle.wire.specs.declared.wire.Event.{Event}
 use Rattle.wire.specs.declared.wire.Event.TheVariants.{Rise, Fall, Start, Stop, SteadyHigh, SteadyLow}
 use Rattle.law.specs.Banks.{Bank, listed}
-use Rattle.law.specs.Books.{Entry, told_if, told_all, told_at_stop, book_tells, Book, least, devices_after, contests, closes, book_after}
+use Rattle.law.specs.Books.{Entry, told_if, told_all, told_at_stop, book_tells, Turn, closed, opened, Book, least, devices_after, contests, closes, book_after}
 use Rattle.law.specs.Carrying.{Placed, Carried, carried}
 use Rattle.law.specs.Legal.{Legal}
 use Rattle.law.specs.Strings.{rank, same_string}
@@ -137,9 +137,9 @@ module _ (hs : List HostBehaviour) (ds : List Behaviour) where
     contest : get_or (contests hs ds b) i None ≡ Some own
     contest = ap (λ cs. get_or cs i None) (contests_of hs ds b) ∙ carried_at ds b.devices (contenders hs b.entries) i t c
 
-    stop_won : (o : OutcomeModel) (v : Bool) → get_or (told_at_stop hs ds b v) i None ≡ Some o → Won ds b.devices (least ds (contests hs ds b)) own o
-    stop_won o true h = won ds b.devices (least ds (contests hs ds b)) (contests hs ds b) i own o contest h
-    stop_won o false h = let z = sym (nobody_at hs b.entries i) ∙ h in cc
+    stop_won : (o : OutcomeModel) (v : Turn) → get_or (told_at_stop hs ds b v) i None ≡ Some o → Won ds b.devices (least ds (contests hs ds b)) own o
+    stop_won o opened h = won ds b.devices (least ds (contests hs ds b)) (contests hs ds b) i own o contest h
+    stop_won o closed h = let z = sym (nobody_at hs b.entries i) ∙ h in cc
 
     tells_won : (o : OutcomeModel) (e : Event) → get_or (book_tells hs ds b e) i None ≡ Some o → Won ds b.devices (least ds (contests hs ds b)) own o
     tells_won o Stop h = stop_won o b.turn h
@@ -153,11 +153,11 @@ module _ (hs : List HostBehaviour) (ds : List Behaviour) where
     tells_own o e h = (tells_won o e h).own
 
     -- only a stop that closes a turn tells
-    stop_turn : (o : OutcomeModel) (v : Bool) → get_or (told_at_stop hs ds b v) i None ≡ Some o → v ≡ true
-    stop_turn o true h = refl
-    stop_turn o false h = let z = sym (nobody_at hs b.entries i) ∙ h in cc
+    stop_turn : (o : OutcomeModel) (v : Turn) → get_or (told_at_stop hs ds b v) i None ≡ Some o → v ≡ opened
+    stop_turn o opened h = refl
+    stop_turn o closed h = let z = sym (nobody_at hs b.entries i) ∙ h in cc
 
-    pub tells_at_stop : (o : OutcomeModel) (e : Event) → get_or (book_tells hs ds b e) i None ≡ Some o → (e ≡ Stop) × (b.turn ≡ true)
+    pub tells_at_stop : (o : OutcomeModel) (e : Event) → get_or (book_tells hs ds b e) i None ≡ Some o → (e ≡ Stop) × (b.turn ≡ opened)
     tells_at_stop o Stop h = (refl, stop_turn o b.turn h)
     tells_at_stop o (Rise x) h = let z = sym (nobody_at hs b.entries i) ∙ h in cc
     tells_at_stop o Fall h = let z = sym (nobody_at hs b.entries i) ∙ h in cc
@@ -165,8 +165,8 @@ module _ (hs : List HostBehaviour) (ds : List Behaviour) where
     tells_at_stop o SteadyHigh h = let z = sym (nobody_at hs b.entries i) ∙ h in cc
     tells_at_stop o SteadyLow h = let z = sym (nobody_at hs b.entries i) ∙ h in cc
 
-    closed : (best : Carried ds) (e : Event) → e ≡ Stop → b.turn ≡ true → least ds (contests hs ds b) ≡ Some best → (book_after hs ds b e).devices ≡ best.devices
-    closed best e p v l = ap (λ x. (book_after hs ds b x).devices) p ∙ (ap (λ w. (closes hs ds b w).devices) v ∙ ap (λ q. devices_after ds q b.devices) l)
+    devices_then : (best : Carried ds) (e : Event) → e ≡ Stop → b.turn ≡ opened → least ds (contests hs ds b) ≡ Some best → (book_after hs ds b e).devices ≡ best.devices
+    devices_then best e p v l = ap (λ x. (book_after hs ds b x).devices) p ∙ (ap (λ w. (closes hs ds b w).devices) v ∙ ap (λ q. devices_after ds q b.devices) l)
 
     -- the devices after a stop are those after the transfer of whoever is told
     pub devices_won : (o : OutcomeModel) (e : Event) → get_or (book_tells hs ds b e) i None ≡ Some o → (book_after hs ds b e).devices ≡ (carried ds t b.devices).devices
@@ -176,5 +176,5 @@ module _ (hs : List HostBehaviour) (ds : List Behaviour) where
         let l = contenders hs b.entries in
         let k = contenders_legal hs b.entries in
         let u = lead_of ds b.devices (lead ds b.devices l) w.best (lead_legal ds b.devices l k) (sym (least_is ds b.devices l k) ∙ (ap (least ds) (sym (contests_of hs ds b)) ∙ w.leads)) in
-        closed w.best e z.0 z.1 w.leads ∙ (ap (λ c. c.devices) u.2
+        devices_then w.best e z.0 z.1 w.leads ∙ (ap (λ c. c.devices) u.2
         ∙ sym (same_devices ds b.devices t u.0 legal u.1 (ap (λ c. same_string own.letters c.letters) (sym u.2) ∙ w.same)))

@@ -6,6 +6,7 @@ ghost use Rattle.master.specs.Masters.{new_master};
 ghost use Rattle.master.specs.Scripts.{transfers};
 
 use super::{Master, MasterState, Verdict};
+use crate::arming::Arming;
 use crate::mark::Mark;
 use host::Host;
 use transfer::{ClockPair, Refusal};
@@ -39,7 +40,7 @@ impl<H: Host> Master<H> {
     pub fn is_armed(&self) -> bool
         ensures { result ≡ served_armed _ (served H.Host self.now) }
     {
-        self.state.armed.is_some()
+        self.state.arming.is_armed()
     }
 
     pub fn reset(&mut self)
@@ -60,7 +61,7 @@ impl<H: Host> Master<H> {
         if !wanted {
             return Err(Refusal::NothingWanted);
         }
-        self.state.armed = Some(transfer);
+        self.state.arming = Arming::Armed(transfer);
         Ok(())
     }
 

@@ -6,6 +6,7 @@ ghost use Rattle.transfer.specs.Outcomes.{outcome_model};
 ghost use Rattle.master.specs.Scripts.{transfers};
 
 use super::{MasterState, Stage, Verdict};
+use crate::arming::Arming;
 use crate::cursor::Cursor;
 use crate::symbol::Symbol;
 use transfer::{ClockPair, Outcome};
@@ -17,7 +18,7 @@ impl MasterState {
     {
         MasterState {
             clock,
-            armed: None,
+            arming: Arming::Unarmed,
             stage: Stage::Waiting,
             count: 0,
             pulls: Pulls::none(),
@@ -81,7 +82,7 @@ impl MasterState {
     fn contend(&mut self) -> Verdict
         ensures { (master_model self.new, verdict_model result) ≡ contends transfers (master_model self.old) (master_model self.old).arming }
     {
-        if let Some(transfer) = self.armed {
+        if let Arming::Armed(transfer) = self.arming {
             self.stage = Stage::Opening(Cursor::new(transfer));
             self.count = 0;
             self.pulls = Pulls {

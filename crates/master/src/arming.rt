@@ -1,0 +1,22 @@
+// Whether a master is armed, and with what.
+ghost use Rattle.std.specs.Prelude.{◌≡◌};
+ghost use Rattle.master.specs.Armings.{is_armed};
+
+/// A master that is armed stays so until its host is told an outcome, also while it contends and once it has lost.
+#[derive(Clone, Copy, PartialEq, Eq, Debug)]
+pub enum Arming<T> {
+    Unarmed,
+    Armed(T),
+}
+
+impl<T> Arming<T> {
+    /// Whatever it is armed with.
+    pub fn is_armed(&self) -> bool
+        ensures { result ≡ is_armed self.now }
+    {
+        match self {
+            Arming::Unarmed => false,
+            Arming::Armed(_) => true,
+        }
+    }
+}
