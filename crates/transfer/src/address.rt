@@ -5,7 +5,7 @@ ghost use Rattle.transfer.specs.Addresses.{checked_address, answers_to};
 
 use crate::refusal::Refusal;
 
-#[derive(Clone, Copy)]
+#[derive(Clone, Copy, PartialEq, Eq, Debug)]
 pub struct Address {
     number: u8,
     ghost least: { 8 ≤ number },

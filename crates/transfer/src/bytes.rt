@@ -3,6 +3,7 @@ ghost use Rattle.std.specs.Prelude.{◌≡◌, ◌≤◌, length};
 ghost use Rattle.transfer.specs.Octets.{Octets};
 
 mod calls;
+mod traits;
 
 // The first `len` of `bytes`. A buffer with its length: a sensor head has no heap, and a transfer is copied, which the kit's
 // `ArrayVec` is not. For the same reason clauses see it by `bytes_in`: the model of a copied type gives its fields back.

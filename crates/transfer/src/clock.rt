@@ -5,7 +5,7 @@ ghost use Rattle.transfer.specs.Clocks.{checked_counts};
 
 use crate::refusal::Refusal;
 
-#[derive(Clone, Copy)]
+#[derive(Clone, Copy, PartialEq, Eq, Debug)]
 pub struct ClockPair {
     low: u8,
     high: u8,

@@ -12,20 +12,20 @@ pub enum Direction {
     Read,
 }
 
-#[derive(Clone, Copy)]
+#[derive(Clone, Copy, PartialEq, Eq, Debug)]
 pub struct ReadCount {
     pub count: u8,
     ghost some: { 1 ≤ count },
     ghost fits: { count ≤ 16 },
 }
 
-#[derive(Clone, Copy)]
+#[derive(Clone, Copy, PartialEq, Eq, Debug)]
 pub enum Body {
     Write(WriteBytes),
     Read(ReadCount),
 }
 
-#[derive(Clone, Copy)]
+#[derive(Clone, Copy, PartialEq, Eq, Debug)]
 pub struct Leg {
     pub address: Address,
     pub body: Body,
