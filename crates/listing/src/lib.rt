@@ -5,4 +5,4 @@ mod listing;
 mod marks;
 
 pub use listing::Listing;
-pub use marks::{Acknowledge, ByteMark, Marks, WireMark, push_numbers};
+pub use marks::{Marks, push_numbers};

@@ -16,7 +16,12 @@ pub struct Bytes<const N: usize> {
     ghost octets: { Octets bytes },
 }
 
-pub type WriteBytes = Bytes<16>;
+/// How many bytes a leg writes or reads at most. It may write none, and reads at least one.
+pub const MOST_BYTES: usize = 16;
 
-// two legs of 16 bytes fit
-pub type ReadBytes = Bytes<32>;
+/// How many bytes a transfer reads at most, in two legs.
+pub const MOST_READ: usize = 2 * MOST_BYTES;
+
+pub type WriteBytes = Bytes<MOST_BYTES>;
+
+pub type ReadBytes = Bytes<MOST_READ>;
