@@ -40,4 +40,4 @@ byte_step p SteadyLow o = (decoded.Nothing, p)
 
 abbrev pub decoder_step : Decoder → Event → Decoded × Decoder
 decoder_step s e = let w = byte_step s.byte e (counted s.latch.level e) in
-  (w.0, record { latch = record { level = latched s.latch.level e }; byte = w.1 })
+    (w.0, record { latch = record { level = latched s.latch.level e }; byte = w.1 })

@@ -3,6 +3,8 @@
 
 mod decoder;
 mod octet;
+#[cfg(test)]
+mod tests;
 mod wire;
 
 pub use decoder::{Acknowledge, Decoded, DecodedByte, Decoder};
