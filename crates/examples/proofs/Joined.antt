@@ -6,7 +6,7 @@ use Rattle.law.specs.Laws.{most_ticks_of_turn}
 use Rattle.law.specs.Runs.{RunModel, run_at}
 use Rattle.parts.specs.Arms.{all_armed}
 use Rattle.examples.specs.Runs.{joined_line, queues_ran}
-use Rattle.text.specs.Outcomes.{outcome_text}
+use Rattle.transfer.specs.OutcomeTexts.{outcome_text}
 use Rattle.examples.specs.Setups.{reader, two_queues}
 
 ran : (n : ℕ) (u : BusModel reader two_queues) →

@@ -5,6 +5,7 @@ use Rattle.transfer.specs.declared.draft.Transfer.{Transfer}
 use Rattle.transfer.specs.Drafts.{TransferModel, transfer_model}
 use Rattle.transfer.specs.Legs.{writes, reads}
 use Rattle.transfer.specs.Outcomes.{OutcomeModel}
+use Rattle.transfer.specs.OutcomeTexts.{outcome_text}
 use Rattle.device.specs.Behaviours.{Behaviour}
 use Rattle.device.specs.RegisterFiles.{register_file}
 use Rattle.host.specs.Behaviours.{HostBehaviour}
@@ -17,7 +18,6 @@ use Rattle.listing.specs.Lines.{told_text}
 use Rattle.parts.specs.Arms.{all_armed}
 use Rattle.parts.specs.Pairs.{pair_made}
 use Rattle.parts.specs.declared.pair.Clocks.{Clocks}
-use Rattle.text.specs.Outcomes.{outcome_text}
 use Rattle.wire.specs.declared.wire.Event.{Event}
 use Rattle.wire.specs.declared.wire.Event.TheVariants.{Rise, Fall, Start, Stop, SteadyHigh, SteadyLow}
 use Rattle.examples.specs.Setups.{counts, all_counts, reader, two_queues, IsQueues}

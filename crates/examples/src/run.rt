@@ -13,7 +13,7 @@ use listing::push_numbers;
 use parts::{Clocks, PairBus, arm_all, list_of, pair_bus, ticks_of_turns};
 use printing::Output;
 use std::io;
-use text::{ArrayString, push_decimal, push_outcome};
+use text::{ArrayString, Decimal};
 use transfer::{Address, Transfer};
 
 const REGISTERS: u32 = 0x50;
@@ -44,13 +44,13 @@ fn push_clocks<const N: usize>(text: &mut ArrayString<N>, clocks: Clocks)
     ensures short { length text.new.bytes ≤ length text.old.bytes + 87 }
 {
     let Clocks { first, second } = clocks;
-    push_decimal(text, first.low().into());
+    Decimal(first.low().into()).push_to(text);
     text.push_str(" ");
-    push_decimal(text, first.high().into());
+    Decimal(first.high().into()).push_to(text);
     text.push_str(" and ");
-    push_decimal(text, second.low().into());
+    Decimal(second.low().into()).push_to(text);
     text.push_str(" ");
-    push_decimal(text, second.high().into());
+    Decimal(second.high().into()).push_to(text);
 }
 
 fn push_told<const N: usize>(text: &mut ArrayString<N>, stop: Option<Tick>)
@@ -111,7 +111,7 @@ fn push_joined<const N: usize>(text: &mut ArrayString<N>)
     let ((reader, End), _queues) = bus.close();
     if let Some(outcome) = reader.into_host().last() {
         text.push_str("joined queues: ");
-        push_outcome(text, &outcome);
+        outcome.push_to(text);
         text.push_str("\n");
     }
 }

@@ -19,7 +19,7 @@ pub struct Bus<M: Masters, P: Ports> {
 }
 
 // What a run answers: the ticks made, the outcomes told in them, and the busy ticks in thousandths of these ticks.
-#[derive(Clone, Copy)]
+#[derive(Clone, Copy, PartialEq, Eq, Debug)]
 pub struct Run {
     pub ticks: u32,
     pub outcomes: u32,

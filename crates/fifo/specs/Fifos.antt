@@ -1,10 +1,11 @@
 -- A list of up to 8 items by those that are left of it. Assumes nothing.
 use Rattle.std.specs.Prelude.{ℕ, cond, List, [], ◌∷◌, length, Some, None, Ok, Err, Option, Result, nat_le}
+use Rattle.transfer.specs.Limits.{most_items}
 
 module _ {T : Type 0} where
   -- a new list in the place of what is left of the old
   abbrev pub filled : List T → List T → Result (Unit {0}) ℕ × List T
-  filled ts old = cond (nat_le (length ts) 8) (Ok tt, ts) (Err 4, old)
+  filled ts old = cond (nat_le (length ts) most_items) (Ok tt, ts) (Err 4, old)
 
   abbrev pub first_of : List T → Option T
   first_of [] = None

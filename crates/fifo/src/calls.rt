@@ -3,7 +3,7 @@ ghost use Rattle.std.specs.Prelude.{◌≡◌, []};
 ghost use Rattle.transfer.specs.Refusals.{answer};
 ghost use Rattle.fifo.specs.Fifos.{filled, first_of, later};
 
-use crate::Fifo;
+use crate::{Fifo, MOST_ITEMS};
 use transfer::Refusal;
 
 impl<T: Copy> Fifo<T> {
@@ -12,7 +12,7 @@ impl<T: Copy> Fifo<T> {
         ensures { result ≡ [] }
     {
         Fifo {
-            slots: [filler; 8],
+            slots: [filler; MOST_ITEMS],
             count: 0,
             place: 0,
         }
@@ -22,7 +22,7 @@ impl<T: Copy> Fifo<T> {
     pub fn fill(&mut self, items: &[T]) -> Result<(), Refusal>
         ensures { (answer (λ u. u) result, self.new) ≡ filled items.now self.old }
     {
-        if items.len() > 8 {
+        if items.len() > MOST_ITEMS {
             return Err(Refusal::LengthOutOfRange);
         }
         self.slots[..items.len()].copy_from_slice(items);

@@ -2,16 +2,20 @@
 #![tactic(auto)]
 
 ghost use Rattle.std.specs.Prelude.{◌≤◌, List, take, drop};
+ghost use Rattle.transfer.specs.Limits.{most_items};
 
 use std::marker::Model;
 
 mod calls;
 
+/// How many items a list has at most.
+pub const MOST_ITEMS: usize = 8;
+
 // The first `count` of `slots` are the list, and those from `place` on are left. A buffer with its length: a sensor head
 // has no heap, and the kit's `ArrayVec` would ask a default of the items, which callers need not have.
 #[derive(Drop)]
 pub struct Fifo<T> {
-    slots: [T; 8],
+    slots: [T; MOST_ITEMS],
     count: usize,
     place: usize,
 }
@@ -22,5 +26,5 @@ impl<T> Model for Fifo<T> {
 
     ghost view = { λ f. drop f.place (take f.count f.slots) };
 
-    ghost invariant = { λ f. (f.place ≤ f.count) × (f.count ≤ 8) };
+    ghost invariant = { λ f. (f.place ≤ f.count) × (f.count ≤ most_items) };
 }

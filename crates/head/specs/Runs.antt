@@ -2,11 +2,12 @@
 use Rattle.std.specs.Prelude.{ℕ, ◌*◌, List, [], ◌++◌, codes, decimal, Option, Some, None, Result}
 use Rattle.std.specs.declared.io.Error.{Error}
 use Rattle.transfer.specs.Outcomes.{OutcomeModel}
+use Rattle.transfer.specs.OutcomeTexts.{outcome_text}
 use Rattle.law.specs.Buses.{BusModel}
 use Rattle.law.specs.Laws.{most_ticks_of_turn}
 use Rattle.printing.specs.Outputs.{Puts}
 use Rattle.printing.specs.Runs.{Listened, OnlyRun}
-use Rattle.text.specs.Outcomes.{bytes_text, outcome_text}
+use Rattle.text.specs.Digits.{bytes_text}
 use Rattle.head.specs.Setups.{head_hosts, head_devices, IsHead}
 
 -- what master n was told last, if it was told anything

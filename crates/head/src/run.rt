@@ -10,7 +10,7 @@ use exchange::End;
 use parts::ticks_of_turns;
 use printing::{Output, print_run};
 use std::io;
-use text::{ArrayString, push_bytes, push_decimal, push_outcome};
+use text::{ArrayString, Decimal, push_bytes};
 use transfer::Outcome;
 
 const MASTERS: usize = 3;
@@ -26,9 +26,9 @@ fn push_told<const N: usize>(text: &mut ArrayString<N>, number: u64, last: Optio
 {
     if let Some(outcome) = last {
         text.push_str("master ");
-        push_decimal(text, number);
+        Decimal(number).push_to(text);
         text.push_str(": ");
-        push_outcome(text, &outcome);
+        outcome.push_to(text);
         text.push_str("\n");
     }
 }

@@ -3,6 +3,7 @@ use Rattle.std.specs.Prelude.{ℕ, cond, List, length, Some, None, Ok, Err, Opti
 use Rattle.std.specs.Option.{option_map}
 use Rattle.fifo.specs.Fifos.{first_of, later}
 use Rattle.transfer.specs.declared.draft.Transfer.{Transfer}
+use Rattle.transfer.specs.Limits.{most_items}
 use Rattle.transfer.specs.Outcomes.{OutcomeModel, outcome_model}
 use Rattle.host.specs.declared.list_host.ListHost.{ListHost}
 use Rattle.host.specs.Behaviours.{HostBehaviour}
@@ -21,7 +22,7 @@ list_host = record {
 
 -- a new list in the place of the old
 abbrev pub refilled : List Transfer → Listed → Result (Unit {0}) ℕ × Listed
-refilled ts m = cond (nat_le (length ts) 8) (Ok tt, record { rest = ts; last = None }) (Err 4, m)
+refilled ts m = cond (nat_le (length ts) most_items) (Ok tt, record { rest = ts; last = None }) (Err 4, m)
 
 abbrev pub listed : ListHost → Listed
 listed h = record { rest = h.transfers; last = option_map outcome_model h.last }

@@ -6,7 +6,7 @@ mod count;
 
 // What a tick answers: the levels, the event, and which masters were told or lost. The mark of a master that
 // the bus does not have is `Quiet`.
-#[derive(Clone, Copy)]
+#[derive(Clone, Copy, PartialEq, Eq, Debug)]
 pub struct Tick {
     pub levels: Levels,
     pub event: Event,

@@ -4,31 +4,20 @@ use Rattle.std.specs.List.{flat_map}
 use Rattle.law.specs.Runs.{is_told}
 use Rattle.master.specs.declared.mark.Mark.{Mark}
 use Rattle.master.specs.declared.mark.Mark.TheVariants.{Quiet, Told, Lost}
-use Rattle.listing.specs.declared.marks.Acknowledge.{Acknowledge}
-use Rattle.listing.specs.declared.marks.Acknowledge.TheVariants as acknowledge
-use Rattle.listing.specs.declared.marks.ByteMark.{ByteMark}
 use Rattle.listing.specs.declared.marks.Marks.{Marks}
-use Rattle.listing.specs.declared.marks.WireMark.{WireMark}
-use Rattle.listing.specs.declared.marks.WireMark.TheVariants as wire
-use Rattle.listing.specs.declared.marks.WireMark.TheVariants.{Start, Byte, Stop}
-use Rattle.text.specs.Digits.{digit_code, hex_digits}
-
-abbrev pub letter_of : Acknowledge → ℕ
-letter_of acknowledge.A = 65
-letter_of acknowledge.N = 78
+use Rattle.text.specs.Digits.{digit_code}
+use Rattle.wire.specs.ByteTexts.{byte_text}
+use Rattle.wire.specs.declared.decoder.Decoded.{Decoded}
+use Rattle.wire.specs.declared.decoder.Decoded.TheVariants.{Nothing, Start, Byte, Stop}
 
 abbrev pub line_of : List ℕ → List ℕ → List ℕ
 line_of d mark = d ++ (codes " " ++ (mark ++ codes "\n"))
 
--- two hexadecimal digits, a space, and A or N
-abbrev pub byte_text : ByteMark → List ℕ
-byte_text b = hex_digits b.value ++ (codes " " ++ (letter_of b.acknowledge ∷ []))
-
-abbrev pub wire_line : List ℕ → WireMark → List ℕ
+abbrev pub wire_line : List ℕ → Decoded → List ℕ
 wire_line d Start = line_of d (codes "S")
 wire_line d (Byte b) = line_of d (byte_text b)
 wire_line d Stop = []
-wire_line d wire.Quiet = []
+wire_line d Nothing = []
 
 abbrev pub is_lost : Mark → Bool
 is_lost Lost = true
@@ -68,11 +57,11 @@ told_item n = codes " " ++ (digit_code n ∷ [])
 abbrev pub told_text : List Mark → List ℕ
 told_text ms = flat_map told_item (numbers is_told 0 ms)
 
-abbrev pub stop_line : List ℕ → WireMark → List Mark → List ℕ
+abbrev pub stop_line : List ℕ → Decoded → List Mark → List ℕ
 stop_line d Stop ms = line_of d (codes "P" ++ told_text ms)
 stop_line d Start ms = []
 stop_line d (Byte b) ms = []
-stop_line d wire.Quiet ms = []
+stop_line d Nothing ms = []
 
 abbrev pub lines_of : List ℕ → Marks → List ℕ
 lines_of d m = (wire_line d m.wire ++ loser_lines d m.masters) ++ stop_line d m.wire m.masters

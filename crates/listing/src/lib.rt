@@ -3,6 +3,8 @@
 
 mod listing;
 mod marks;
+#[cfg(test)]
+mod tests;
 
 pub use listing::Listing;
-pub use marks::{Acknowledge, ByteMark, Marks, WireMark, push_numbers};
+pub use marks::{Marks, push_numbers};

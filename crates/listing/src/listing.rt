@@ -1,11 +1,37 @@
-// The state of a listing: how many ticks it has seen, and the byte under way.
-use wire::{Latch, Partial};
+// The state of a listing: how many ticks it has seen, and the bytes of the wire.
+ghost use Rattle.std.specs.Prelude.{◌≡◌};
+ghost use Rattle.listing.specs.Listings.{new_listing, listing_step};
 
-mod steps;
+use crate::marks::Marks;
+use law::Tick;
+use wire::Decoder;
 
-#[derive(Clone, Copy)]
+#[derive(Clone, Copy, PartialEq, Eq, Debug)]
 pub struct Listing {
     ticks: u64,
-    latch: Latch,
-    byte: Partial,
+    decoder: Decoder,
+}
+
+impl Listing {
+    // Before the first tick, which is number 1.
+    pub fn new() -> Listing
+        ensures { result ≡ new_listing }
+    {
+        Listing {
+            ticks: 0,
+            decoder: Decoder::new(),
+        }
+    }
+
+    // The marks of the next tick. The count stays at the highest number rather than wrap.
+    pub fn step(&mut self, tick: &Tick) -> Marks
+        ensures { (result, self.new) ≡ listing_step self.old tick.now }
+    {
+        self.ticks = self.ticks.saturating_add(1);
+        Marks {
+            tick: self.ticks,
+            wire: self.decoder.step(tick.event),
+            masters: tick.marks,
+        }
+    }
 }

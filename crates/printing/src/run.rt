@@ -4,7 +4,7 @@ ghost use Rattle.exchange.specs.Parts.{bus_model};
 ghost use Rattle.law.specs.Buses.{NeverHold};
 ghost use Rattle.printing.specs.Outputs.{Puts};
 ghost use Rattle.printing.specs.Runs.{OneHold, Listened, RunsTo, PrintsAll, PrintsPart, setting_out, unheld_lines};
-ghost use Rattle.text.specs.Decimals.{Decimal};
+ghost use Rattle.text.specs.Decimals.{IsDecimal};
 
 use crate::output::Output;
 use exchange::{Bus, Masters, Ports};
@@ -25,7 +25,7 @@ pub fn print_run<M: Masters, P: Ports, O: Output>(
     ensures part { IfErr result (PrintsPart _ _ O.Output.takes O.Output.fails masters most_ticks (bus_model bus.old) (bus_model bus.new) out.old out.new) }
     ensures unheld { NeverHold P.Ports.devices → Puts O.Output.takes O.Output.fails (unheld_lines _ _ masters most_ticks (setting_out _ _ masters (bus_model bus.old))) out.old result out.new }
     ensures only { OneHold P.Ports.devices → (text : List ℕ) (end : Listened _ _) → RunsTo _ _ masters most_ticks (bus_model bus.old) text end → Puts O.Output.takes O.Output.fails text out.old result out.new }
-    ensures numbers { (n : ℕ) → n < 2 ^ 64 → Decimal n (decimal n) }
+    ensures numbers { (n : ℕ) → n < 2 ^ 64 → IsDecimal n (decimal n) }
 {
     let mut listing = Listing::new();
     arm_all(bus, masters);

@@ -2,7 +2,7 @@
 use Rattle.std.proofs.Common.{◌≡◌, ℕ, zero, suc, ◌^◌, ◌<◌, List, length, get_or, decimal, sym, ap, ◌∙◌, arith, rules}
 use Rattle.std.proofs.lemmas.Fmt.{digits_decimal, digits_value-decimal, decimal_digit, decimal_nonempty, first_decimal, decimal-digits_value}
 use Rattle.std.proofs.lemmas.Str.Parse.{IsNumeralModel, numerals_by_fold}
-use Rattle.text.specs.Decimals.{AllDigits, read_on, Decimal}
+use Rattle.text.specs.Decimals.{AllDigits, read_on, IsDecimal}
 
 own : IsNumeralModel AllDigits (read_on 0)
 own = numerals_by_fold AllDigits (search rules) read_on (search rules)
@@ -11,7 +11,7 @@ lead : (n : ℕ) → n < 2 ^ 64 → get_or (decimal n) 0 0 ≡ 48 → length (de
 lead zero fits e = ap length (decimal_digit 0 (omega arith))
 lead (suc n) fits e = absurd (omega (arith, first_decimal (suc n) (omega arith) fits))
 
-pub is_decimal : (n : ℕ) → n < 2 ^ 64 → Decimal n (decimal n)
+pub is_decimal : (n : ℕ) → n < 2 ^ 64 → IsDecimal n (decimal n)
 is_decimal n fits = record {
   digits = digits_decimal own n fits;
   value = digits_value-decimal own n fits;
@@ -19,6 +19,6 @@ is_decimal n fits = record {
   lead = lead n fits;
 }
 
-pub only_one : (n : ℕ) (text : List ℕ) → n < 2 ^ 64 → Decimal n text → text ≡ decimal n
+pub only_one : (n : ℕ) (text : List ℕ) → n < 2 ^ 64 → IsDecimal n text → text ≡ decimal n
 only_one n text fits d =
     sym (ap decimal (sym d.value) ∙ decimal-digits_value own text d.digits d.some d.lead (omega (arith, d.value)))

@@ -11,7 +11,7 @@ abbrev pub read_on : ℕ → List ℕ → ℕ
 read_on n [] = n
 read_on n (c ∷ cs) = read_on (n * 10 + (c - 48)) cs
 
-pub record Decimal (n : ℕ) (text : List ℕ) : Type 0 where
+pub record IsDecimal (n : ℕ) (text : List ℕ) : Type 0 where
   pub digits : AllDigits text
   pub value : read_on 0 text ≡ n
   pub some : 0 < length text

@@ -1,5 +1,6 @@
--- Digits, and a byte in two of them. Assumes nothing.
-use Rattle.std.specs.Prelude.{ℕ, ◌+◌, ◌/◌, ◌%◌, cond, List, [], ◌∷◌, nat_lt}
+-- Digits, a byte in two of them, and bytes. Assumes nothing.
+use Rattle.std.specs.Prelude.{ℕ, ◌+◌, ◌/◌, ◌%◌, cond, List, [], ◌∷◌, ◌++◌, codes, nat_lt}
+use Rattle.std.specs.List.{flat_map}
 
 -- 0 to 9 from code 48 on, and A to F from code 65 on
 abbrev pub digit_code : ℕ → ℕ
@@ -7,3 +8,10 @@ digit_code d = cond (nat_lt d 10) (48 + d) (55 + d)
 
 abbrev pub hex_digits : ℕ → List ℕ
 hex_digits b = digit_code (b / 16) ∷ digit_code (b % 16) ∷ []
+
+abbrev pub byte_item : ℕ → List ℕ
+byte_item b = codes " " ++ hex_digits b
+
+-- each byte as a space and two hexadecimal digits
+abbrev pub bytes_text : List ℕ → List ℕ
+bytes_text xs = flat_map byte_item xs

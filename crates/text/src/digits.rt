@@ -1,6 +1,6 @@
-// Digits, and a byte in two of them.
-ghost use Rattle.std.specs.Prelude.{◌≡◌, ◌+◌, ◌<◌, ◌≤◌, ◌++◌, length};
-ghost use Rattle.text.specs.Digits.{digit_code, hex_digits};
+// Digits, a byte in two of them, and bytes.
+ghost use Rattle.std.specs.Prelude.{◌≡◌, ◌+◌, ◌*◌, ◌<◌, ◌≤◌, ◌++◌, length};
+ghost use Rattle.text.specs.Digits.{digit_code, hex_digits, bytes_text};
 
 use arrayvec::ArrayString;
 
@@ -22,4 +22,16 @@ pub fn push_hex<const N: usize>(text: &mut ArrayString<N>, byte: u8)
 {
     text.push(digit(byte / 16));
     text.push(digit(byte % 16));
+}
+
+// Each byte as a space and two capital hexadecimal digits.
+pub fn push_bytes<const N: usize>(text: &mut ArrayString<N>, bytes: &[u8])
+    requires { length text.old.bytes + 3 * length bytes.now ≤ N }
+    ensures text { text.new.bytes ≡ text.old.bytes ++ bytes_text bytes.now }
+    ensures len { length text.new.bytes ≡ length text.old.bytes + 3 * length bytes.now }
+{
+    for &byte in bytes {
+        text.push_str(" ");
+        push_hex(text, byte);
+    }
 }

@@ -3,6 +3,7 @@ use Rattle.std.specs.Prelude.{ℕ, cond, ◌&&◌, List, length, Some, None, Ok,
 use Rattle.std.specs.Option.{option_map}
 use Rattle.transfer.specs.declared.draft.Transfer.{Transfer}
 use Rattle.transfer.specs.Legs.{BodyModel, writes, reads, LegModel, leg_model, empty_write}
+use Rattle.transfer.specs.Limits.{most_bytes}
 
 pub record TransferModel : Type 0 where
   pub first : LegModel
@@ -23,10 +24,10 @@ last_set b g None = record { first = with_body b g; second = None }
 last_set b g (Some h) = record { first = g; second = Some (with_body b h) }
 
 abbrev pub write_set : List ℕ → TransferModel → Result (Unit {0}) ℕ × TransferModel
-write_set xs d = cond (nat_le (length xs) 16) (Ok tt, last_set (writes xs) d.first d.second) (Err 4, d)
+write_set xs d = cond (nat_le (length xs) most_bytes) (Ok tt, last_set (writes xs) d.first d.second) (Err 4, d)
 
 abbrev pub read_set : ℕ → TransferModel → Result (Unit {0}) ℕ × TransferModel
-read_set n d = cond (nat_le 1 n && nat_le n 16) (Ok tt, last_set (reads n) d.first d.second) (Err 4, d)
+read_set n d = cond (nat_le 1 n && nat_le n most_bytes) (Ok tt, last_set (reads n) d.first d.second) (Err 4, d)
 
 abbrev pub with_second : ℕ → LegModel → Option LegModel → Result (Unit {0}) ℕ × TransferModel
 with_second a g None = (Ok tt, record { first = g; second = Some (empty_write a) })

@@ -8,3 +8,4 @@ pub mod Legs
 pub mod Drafts
 pub mod Wholes
 pub mod Outcomes
+pub mod OutcomeTexts

@@ -2,21 +2,28 @@
 ghost use Rattle.std.specs.Prelude.{◌≡◌, ◌≤◌};
 ghost use Rattle.transfer.specs.Refusals.{answer};
 ghost use Rattle.transfer.specs.Addresses.{checked_address, answers_to};
+ghost use Rattle.transfer.specs.Limits.{least_address, most_address};
 
 use crate::refusal::Refusal;
 
-#[derive(Clone, Copy)]
+#[derive(Clone, Copy, PartialEq, Eq, Debug)]
 pub struct Address {
     number: u8,
-    ghost least: { 8 ≤ number },
-    ghost most: { number ≤ 119 },
+    ghost least: { least_address ≤ number },
+    ghost most: { number ≤ most_address },
 }
 
 impl Address {
+    /// The lowest number that is an address; those below it are reserved.
+    pub const LEAST: u32 = 8;
+
+    /// The highest number that is an address; those above it are reserved.
+    pub const MOST: u32 = 119;
+
     pub fn new(number: u32) -> Result<Address, Refusal>
         ensures { answer (λ a. a.number) result ≡ checked_address number }
     {
-        if !(8..=119).contains(&number) {
+        if !(Address::LEAST..=Address::MOST).contains(&number) {
             return Err(Refusal::AddressOutOfRange);
         }
         Ok(Address {
@@ -25,9 +32,11 @@ impl Address {
     }
 
     pub fn least() -> Address
-        ensures { result.number ≡ 8 }
+        ensures { result.number ≡ least_address }
     {
-        Address { number: 8 }
+        Address {
+            number: Address::LEAST as u8,
+        }
     }
 
     pub fn number(self) -> u8

@@ -3,6 +3,7 @@ ghost use Rattle.std.specs.Prelude.{◌≡◌, ◌≤◌, length};
 ghost use Rattle.transfer.specs.Octets.{Octets};
 
 mod calls;
+mod traits;
 
 // The first `len` of `bytes`. A buffer with its length: a sensor head has no heap, and a transfer is copied, which the kit's
 // `ArrayVec` is not. For the same reason clauses see it by `bytes_in`: the model of a copied type gives its fields back.
@@ -15,7 +16,12 @@ pub struct Bytes<const N: usize> {
     ghost octets: { Octets bytes },
 }
 
-pub type WriteBytes = Bytes<16>;
+/// How many bytes a leg writes or reads at most. It may write none, and reads at least one.
+pub const MOST_BYTES: usize = 16;
 
-// two legs of 16 bytes fit
-pub type ReadBytes = Bytes<32>;
+/// How many bytes a transfer reads at most, in two legs.
+pub const MOST_READ: usize = 2 * MOST_BYTES;
+
+pub type WriteBytes = Bytes<MOST_BYTES>;
+
+pub type ReadBytes = Bytes<MOST_READ>;

@@ -2,24 +2,28 @@
 ghost use Rattle.std.specs.Prelude.{◌≡◌, ◌≤◌};
 ghost use Rattle.transfer.specs.Refusals.{answer};
 ghost use Rattle.transfer.specs.Clocks.{checked_counts};
+ghost use Rattle.transfer.specs.Limits.{most_count};
 
 use crate::refusal::Refusal;
 
-#[derive(Clone, Copy)]
+#[derive(Clone, Copy, PartialEq, Eq, Debug)]
 pub struct ClockPair {
     low: u8,
     high: u8,
     ghost low_from: { 1 ≤ low },
-    ghost low_to: { low ≤ 255 },
+    ghost low_to: { low ≤ most_count },
     ghost high_from: { 1 ≤ high },
-    ghost high_to: { high ≤ 255 },
+    ghost high_to: { high ≤ most_count },
 }
 
 impl ClockPair {
+    /// The highest count; the lowest is 1.
+    pub const MOST: u32 = 255;
+
     pub fn new(low: u32, high: u32) -> Result<ClockPair, Refusal>
         ensures { answer (λ c. (c.low, c.high)) result ≡ checked_counts low high }
     {
-        let counts = 1..=255;
+        let counts = 1..=ClockPair::MOST;
         if !counts.contains(&low) || !counts.contains(&high) {
             return Err(Refusal::ClockOutOfRange);
         }

@@ -5,7 +5,7 @@ use crate::leg::Leg;
 use std::marker::Model;
 
 // Clauses see it by `transfer_model`: the model of a copied type gives its fields back, and that of a leg cannot.
-#[derive(Clone, Copy)]
+#[derive(Clone, Copy, PartialEq, Eq, Debug)]
 pub struct Transfer {
     first: Leg,
     second: Option<Leg>,

@@ -8,9 +8,11 @@ mod draft;
 mod leg;
 mod outcome;
 mod refusal;
+#[cfg(test)]
+mod tests;
 
 pub use address::Address;
-pub use bytes::{Bytes, ReadBytes, WriteBytes};
+pub use bytes::{Bytes, MOST_BYTES, MOST_READ, ReadBytes, WriteBytes};
 pub use clock::ClockPair;
 pub use draft::{Draft, Transfer};
 pub use leg::{Body, Direction, Leg, ReadCount};

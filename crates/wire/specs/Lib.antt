@@ -1,2 +1,4 @@
 pub mod Wires
 pub mod Octets
+pub mod Decoders
+pub mod ByteTexts

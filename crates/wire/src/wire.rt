@@ -29,7 +29,7 @@ pub enum Event {
 }
 
 // What every part sees of one tick.
-#[derive(Clone, Copy)]
+#[derive(Clone, Copy, PartialEq, Eq, Debug)]
 pub struct Signal {
     pub event: Event,
     // the bit that counts in this tick, if one does
@@ -39,7 +39,7 @@ pub struct Signal {
 }
 
 // The lines as the last tick left them.
-#[derive(Clone, Copy)]
+#[derive(Clone, Copy, PartialEq, Eq, Debug)]
 pub struct Wire {
     pub last: Levels,
     // from a start to the next stop
@@ -48,7 +48,7 @@ pub struct Wire {
 }
 
 // The level of the last rise, until it counts at a fall or a start or a stop drops it.
-#[derive(Clone, Copy)]
+#[derive(Clone, Copy, PartialEq, Eq, Debug)]
 pub struct Latch {
     pub level: Option<bool>,
 }

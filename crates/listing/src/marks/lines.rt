@@ -1,36 +1,16 @@
 // The lines of a tick: its number and a mark on each.
-ghost use Rattle.std.specs.Prelude.{◌≡◌, ◌+◌, ◌*◌, ◌≤◌, [], ◌∷◌, ◌++◌, length, decimal};
-ghost use Rattle.text.specs.Decimals.{Decimal};
-ghost use Rattle.listing.specs.Lines.{letter_of, byte_text, wire_line, loser_lines, stop_line, is_mark, numbers, numbers_text, lines_of};
+ghost use Rattle.std.specs.Prelude.{◌≡◌, ◌+◌, ◌*◌, ◌≤◌, ◌++◌, Some, length, decimal};
+ghost use Rattle.text.specs.Decimals.{IsDecimal};
+ghost use Rattle.listing.specs.Lines.{wire_line, loser_lines, stop_line, is_mark, numbers, numbers_text, lines_of};
 
-use super::{Acknowledge, ByteMark, Marks, WireMark};
+use super::Marks;
 use master::Mark;
-use text::{ArrayString, digit, push_decimal, push_hex};
+use std::fmt;
+use text::{ArrayString, Decimal, digit};
+use wire::Decoded;
 
 // Room for the longest lines of a tick, whose number has 20 digits at most: one of 26 bytes, 8 of 25, and one of 39.
 const LINES: usize = 265;
-
-impl Acknowledge {
-    pub fn letter(self) -> &'static str
-        ensures { result.now ≡ letter_of self ∷ [] }
-    {
-        match self {
-            Acknowledge::A => "A",
-            Acknowledge::N => "N",
-        }
-    }
-}
-
-impl ByteMark {
-    pub fn push_to<const N: usize>(self, text: &mut ArrayString<N>)
-        requires { length text.old.bytes + 4 ≤ N }
-        ensures { text.new.bytes ≡ text.old.bytes ++ byte_text self }
-    {
-        push_hex(text, self.value);
-        text.push_str(" ");
-        text.push_str(self.acknowledge.letter());
-    }
-}
 
 // The number of each master with this mark, the lowest first, between two texts.
 pub fn push_numbers<const N: usize>(
@@ -54,23 +34,23 @@ pub fn push_numbers<const N: usize>(
 }
 
 // The line of a start or of a byte; a stop has its own at the end.
-fn push_wire<const N: usize>(text: &mut ArrayString<N>, number: &str, wire: WireMark)
+fn push_wire<const N: usize>(text: &mut ArrayString<N>, number: &str, wire: Decoded)
     requires { length text.old.bytes + length number.now + 6 ≤ N }
     ensures text { text.new.bytes ≡ text.old.bytes ++ wire_line number.now wire }
     ensures short { length text.new.bytes ≤ length text.old.bytes + length number.now + 6 }
 {
     match wire {
-        WireMark::Start => {
+        Decoded::Start => {
             text.push_str(number);
             text.push_str(" S\n");
         }
-        WireMark::Byte(byte) => {
+        Decoded::Byte(byte) => {
             text.push_str(number);
             text.push_str(" ");
             byte.push_to(text);
             text.push_str("\n");
         }
-        WireMark::Quiet | WireMark::Stop => {}
+        Decoded::Nothing | Decoded::Stop => {}
     }
 }
 
@@ -89,13 +69,13 @@ fn push_losers<const N: usize>(text: &mut ArrayString<N>, number: &str, masters:
 fn push_stop<const N: usize>(
     text: &mut ArrayString<N>,
     number: &str,
-    wire: WireMark,
+    wire: Decoded,
     masters: &[Mark; 8],
 )
     requires { length text.old.bytes + length number.now + 19 ≤ N }
     ensures { text.new.bytes ≡ text.old.bytes ++ stop_line number.now wire masters.now }
 {
-    if wire == WireMark::Stop {
+    if wire == Decoded::Stop {
         text.push_str(number);
         text.push_str(" P");
         push_numbers(text, masters, Mark::Told, " ", "");
@@ -107,14 +87,22 @@ impl Marks {
     // A start, a byte, the losers and a stop, in this order.
     pub fn lines(&self) -> ArrayString<LINES>
         ensures lines { result.bytes ≡ lines_of (decimal self.now.tick) self.now }
-        ensures number { Decimal self.now.tick (decimal self.now.tick) }
+        ensures number { IsDecimal self.now.tick (decimal self.now.tick) }
     {
         let mut number = ArrayString::<20>::new();
-        push_decimal(&mut number, self.tick);
+        Decimal(self.tick).push_to(&mut number);
         let mut text = ArrayString::new();
         push_wire(&mut text, number.as_str(), self.wire);
         push_losers(&mut text, number.as_str(), &self.masters);
         push_stop(&mut text, number.as_str(), self.wire, &self.masters);
         text
+    }
+}
+
+impl fmt::Display for Marks {
+    ghost output = { λ m. Some (lines_of (decimal m.tick) m) };
+
+    fn fmt<W: fmt::Write>(&self, f: &mut fmt::Formatter<W>) -> fmt::Result {
+        f.write_str(self.lines().as_str())
     }
 }

@@ -2,11 +2,12 @@
 ghost use Rattle.std.specs.Prelude.{◌≡◌};
 ghost use Rattle.transfer.specs.Drafts.{transfer_model, begun, last_set, write_set, read_set, second_begun};
 ghost use Rattle.transfer.specs.Legs.{body_model};
+ghost use Rattle.transfer.specs.Limits.{least_address};
 ghost use Rattle.transfer.specs.Refusals.{answer};
 
 use super::{Draft, Transfer};
 use crate::address::Address;
-use crate::bytes::WriteBytes;
+use crate::bytes::{MOST_BYTES, WriteBytes};
 use crate::leg::{Body, Leg, ReadCount};
 use crate::refusal::Refusal;
 
@@ -37,7 +38,7 @@ impl Draft {
     pub fn write(&mut self, bytes: &[u8]) -> Result<(), Refusal>
         ensures { (answer (λ u. u) result, self.new) ≡ write_set bytes.now self.old }
     {
-        if bytes.len() > 16 {
+        if bytes.len() > MOST_BYTES {
             return Err(Refusal::LengthOutOfRange);
         }
         self.set_body(Body::Write(WriteBytes::copy_of(bytes)));
@@ -48,7 +49,7 @@ impl Draft {
     pub fn read(&mut self, count: u32) -> Result<(), Refusal>
         ensures { (answer (λ u. u) result, self.new) ≡ read_set count self.old }
     {
-        if !(1..=16).contains(&count) {
+        if !(1..=MOST_BYTES as u32).contains(&count) {
             return Err(Refusal::LengthOutOfRange);
         }
         self.set_body(Body::Read(ReadCount { count: count as u8 }));
@@ -83,7 +84,7 @@ impl Transfer {
 
     // What stands where no transfer is meant: an empty write to the least address.
     pub fn filler() -> Transfer
-        ensures { transfer_model result ≡ begun 8 }
+        ensures { transfer_model result ≡ begun least_address }
     {
         Draft::new(Address::least()).seal()
     }

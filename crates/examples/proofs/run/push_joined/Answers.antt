@@ -16,7 +16,7 @@ returns-in-Some g c =
     told_last u (bus_model c.arm_all.new.bus) (bus_model c.run.new.self) _ _ _ c.arm_all.ensures (c.run.ensures.unheld never) c.ticks_of_turns.ensures stands in (
       joined_line (queues_ran most_ticks_of_turn u).masters.0.meaning.last,
       (u, c.queue_bus-bus.ensures, refl),
-      line_is _ _ _ _ (outcome_model c.in-Some.outcome) _ (ap (option_map outcome_model) (sym c.in-Some.is) ∙ last) c.push_str.ensures.bytes c.push_outcome.ensures.text c.push_str-in-Some.ensures.bytes,
+      line_is _ _ _ _ (outcome_model c.in-Some.outcome) _ (ap (option_map outcome_model) (sym c.in-Some.is) ∙ last) c.push_str.ensures.bytes c.push_to.ensures.text c.push_str-in-Some.ensures.bytes,
     )
 
 pub returns-in_default : goal.returns-in_default

@@ -1,6 +1,6 @@
 use Rattle.std.proofs.Common.{◌≡◌, ◌+◌, ◌*◌, ◌++◌, length, take}
-use Rattle.text.specs.Outcomes.{bytes_text}
-use Rattle.text.proofs.outcome.push_bytes.Given as goal
+use Rattle.text.specs.Digits.{bytes_text}
+use Rattle.text.proofs.digits.push_bytes.Given as goal
 
 abbrev pub invariant-loop-byte : goal.invariant-loop-byte
 invariant-loop-byte g l =

@@ -1,17 +1,9 @@
--- The text of an outcome, and of bytes. Assumes nothing.
+-- The text of an outcome. Assumes nothing.
 use Rattle.std.specs.Prelude.{ℕ, List, ◌++◌, codes, decimal}
-use Rattle.std.specs.List.{flat_map}
 use Rattle.transfer.specs.declared.outcome.OutcomeKind.{OutcomeKind}
 use Rattle.transfer.specs.declared.outcome.OutcomeKind.TheVariants.{Done, NoAnswer, Refused}
 use Rattle.transfer.specs.Outcomes.{OutcomeModel}
-use Rattle.text.specs.Digits.{hex_digits}
-
-abbrev pub byte_item : ℕ → List ℕ
-byte_item b = codes " " ++ hex_digits b
-
--- each byte as a space and two hexadecimal digits
-abbrev pub bytes_text : List ℕ → List ℕ
-bytes_text xs = flat_map byte_item xs
+use Rattle.text.specs.Digits.{bytes_text}
 
 abbrev pub kind_text : OutcomeKind → List ℕ → List ℕ
 kind_text Done xs = codes "done" ++ bytes_text xs
