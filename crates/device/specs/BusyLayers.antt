@@ -1,20 +1,11 @@
 -- The busy layer: after a selection in which a put got yes, the next selects answer no without asking below. Assumes nothing.
-use Rattle.std.specs.Prelude.{◌≡◌, ℕ, ◌<◌, ◌-◌, Bool, true, false, cond, ◌&&◌, ◌||◌, nat_lt}
+use Rattle.std.specs.Prelude.{◌≡◌, ℕ, ◌<◌, ◌-◌, Bool, false, cond, nat_lt}
 use Rattle.device.specs.declared.busy.Busy.{Busy}
-use Rattle.device.specs.declared.busy.Selection.{Selection}
-use Rattle.device.specs.declared.busy.Selection.TheVariants.{Closed, Open, Written}
+use Rattle.device.specs.declared.selection.Selection.{Selection}
+use Rattle.device.specs.declared.selection.Selection.TheVariants.{Closed}
 use Rattle.device.specs.Behaviours.{Behaviour}
+use Rattle.device.specs.Selections.{after_select, after_put, is_written}
 use Rattle.device.specs.Steps.{Step, select, put, take, finish}
-
-abbrev pub is_inside : Selection → Bool
-is_inside Closed = false
-is_inside Open = true
-is_inside Written = true
-
-abbrev pub has_written : Selection → Bool
-has_written Closed = false
-has_written Open = false
-has_written Written = true
 
 -- a step reaches the device below, once, unless it is a select that is refused
 abbrev pub BusyWent : {D : Type 0} → (D → Step → D → Type 0) → Busy D → Step → Busy D → Type 0
@@ -28,27 +19,27 @@ module _ (b : Behaviour) where
     -- how many selects are refused after such a selection, and how many of them are to come
     pub number : ℕ
     pub left : ℕ
-    -- in a selection: from a select that was answered with yes to the next finish
-    pub inside : Bool
-    -- a put got yes in this selection
-    pub wrote : Bool
+    pub selection : Selection
     pub below : b.Meaning
 
-  abbrev pub refuses : Busied → Busied
-  refuses m = record { number = m.number; left = m.left - 1; inside = m.inside; wrote = m.wrote; below = m.below }
+  abbrev pub new_busy : ℕ → b.Meaning → Busied
+  new_busy n m = record { number = n; left = 0; selection = Closed; below = m }
 
-  -- a select inside a selection opens no other
+  abbrev pub refuses : Busied → Busied
+  refuses m = record { number = m.number; left = m.left - 1; selection = m.selection; below = m.below }
+
   abbrev pub asked : Busied → Bool × b.Meaning → Bool × Busied
-  asked m a = (a.0, record { number = m.number; left = m.left; inside = m.inside || a.0; wrote = m.wrote; below = a.1 })
+  asked m a = (a.0, record { number = m.number; left = m.left; selection = after_select m.selection a.0; below = a.1 })
 
   abbrev pub given : Busied → Bool × b.Meaning → Bool × Busied
-  given m a = (a.0, record { number = m.number; left = m.left; inside = m.inside; wrote = m.wrote || (m.inside && a.0); below = a.1 })
+  given m a = (a.0, record { number = m.number; left = m.left; selection = after_put m.selection a.0; below = a.1 })
 
   abbrev pub taken : Busied → ℕ × b.Meaning → ℕ × Busied
-  taken m a = (a.0, record { number = m.number; left = m.left; inside = m.inside; wrote = m.wrote; below = a.1 })
+  taken m a = (a.0, record { number = m.number; left = m.left; selection = m.selection; below = a.1 })
 
+  -- a finish closes the selection
   abbrev pub finished : Busied → Busied
-  finished m = record { number = m.number; left = cond m.wrote m.number m.left; inside = false; wrote = false; below = b.finish m.below }
+  finished m = record { number = m.number; left = cond (is_written m.selection) m.number m.left; selection = Closed; below = b.finish m.below }
 
   abbrev pub busy_over : Behaviour
   busy_over = record {
@@ -61,4 +52,4 @@ module _ (b : Behaviour) where
   }
 
   abbrev pub busied : {D : Type 0} → (D → b.Meaning) → Busy D → Busied
-  busied means l = record { number = l.number; left = l.left; inside = is_inside l.selection; wrote = has_written l.selection; below = means l.device }
+  busied means l = record { number = l.number; left = l.left; selection = l.selection; below = means l.device }

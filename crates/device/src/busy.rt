@@ -1,18 +1,10 @@
 // A layer that is busy for some selects after a selection that wrote.
-ghost use Rattle.std.specs.Prelude.{◌≡◌, false};
-ghost use Rattle.device.specs.BusyLayers.{busied, busy_over, BusyWent};
+ghost use Rattle.std.specs.Prelude.{◌≡◌};
+ghost use Rattle.device.specs.BusyLayers.{busied, new_busy, busy_over, BusyWent};
 
 use crate::device::Device;
+use crate::selection::Selection;
 use transfer::Direction;
-
-// Where the device is in a selection, which lasts from a select that got yes to the next finish.
-#[derive(Clone, Copy, PartialEq, Eq, Debug)]
-pub enum Selection {
-    Closed,
-    Open,
-    // a put got yes in it
-    Written,
-}
 
 #[derive(Drop)]
 pub struct Busy<D> {
@@ -26,7 +18,7 @@ pub struct Busy<D> {
 
 impl<D: Device> Busy<D> {
     pub fn new(number: u8, device: D) -> Busy<D>
-        ensures made { busied D.Device.behaviour D.Device.means result ≡ record { number = number; left = 0; inside = false; wrote = false; below = D.Device.means device } }
+        ensures made { busied D.Device.behaviour D.Device.means result ≡ new_busy D.Device.behaviour number (D.Device.means device) }
         ensures same { result.device ≡ device }
     {
         Busy {
@@ -35,6 +27,27 @@ impl<D: Device> Busy<D> {
             selection: Selection::Closed,
             device,
         }
+    }
+
+    /// How many selects it refuses after a selection that wrote.
+    pub fn number(&self) -> u8
+        ensures { result ≡ (busied D.Device.behaviour D.Device.means self.now).number }
+    {
+        self.number
+    }
+
+    /// How many selects it still refuses, from 0 to its number.
+    pub fn left(&self) -> u8
+        ensures { result ≡ (busied D.Device.behaviour D.Device.means self.now).left }
+    {
+        self.left
+    }
+
+    /// The device below, as it stands, also in the middle of a selection.
+    pub fn device(&self) -> &D
+        ensures { result.now ≡ self.now.device }
+    {
+        &self.device
     }
 
     // The device below, as it stands.
@@ -66,17 +79,13 @@ impl<D: Device> Device for Busy<D> {
             return false;
         }
         let yes = self.device.select(direction);
-        if yes && self.selection == Selection::Closed {
-            self.selection = Selection::Open;
-        }
+        self.selection = self.selection.after_select(yes);
         yes
     }
 
     fn put(&mut self, byte: u8) -> bool {
         let yes = self.device.put(byte);
-        if yes && self.selection == Selection::Open {
-            self.selection = Selection::Written;
-        }
+        self.selection = self.selection.after_put(yes);
         yes
     }
 
@@ -86,7 +95,7 @@ impl<D: Device> Device for Busy<D> {
 
     fn finish(&mut self) {
         self.device.finish();
-        if self.selection == Selection::Written {
+        if self.selection.is_written() {
             self.left = self.number;
         }
         self.selection = Selection::Closed;

@@ -29,6 +29,13 @@ impl EventQueue {
     {
         self.bytes.fill(bytes)
     }
+
+    /// The bytes that are still to be read, the oldest first.
+    pub fn left(&self) -> &[u8]
+        ensures { result.now ≡ queued self.now }
+    {
+        self.bytes.left()
+    }
 }
 
 impl Device for EventQueue {

@@ -5,6 +5,7 @@ mod busy;
 mod device;
 mod event_queue;
 mod register_file;
+mod selection;
 mod slow;
 #[cfg(test)]
 mod tests;

@@ -18,6 +18,20 @@ impl<D: Device> Slow<D> {
         Slow { number, device }
     }
 
+    /// For how many ticks it holds the clock at least.
+    pub fn number(&self) -> u8
+        ensures { result ≡ (slowed D.Device.behaviour D.Device.means self.now).number }
+    {
+        self.number
+    }
+
+    /// The device below, as it stands, also in the middle of a selection.
+    pub fn device(&self) -> &D
+        ensures { result.now ≡ self.now.device }
+    {
+        &self.device
+    }
+
     // The device below, as it stands.
     pub fn into_device(self) -> D
         ensures { result ≡ self.device }

@@ -18,7 +18,11 @@ fn write_once(device: &mut Busy<RegisterFile>) -> bool {
 fn a_write_makes_busy_for_one_select(rt: HostRuntime) {
     let mut device = Busy::new(1, RegisterFile::new());
     assert!(rt; write_once(&mut device));
+    assert_eq!(rt; device.left(), 1);
+    assert_eq!(rt; device.device().bytes()[3], 0x7F);
+    assert_eq!(rt; device.device().pointer(), 4);
     assert!(rt; !device.select(Direction::Write));
+    assert_eq!(rt; device.left(), 0);
     assert!(rt; device.select(Direction::Write));
 }
 

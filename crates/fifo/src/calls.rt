@@ -31,11 +31,18 @@ impl<T: Copy> Fifo<T> {
         Ok(())
     }
 
+    /// The items that are left, the first one first.
+    pub fn left(&self) -> &[T]
+        ensures { result.now ≡ self.now }
+    {
+        let listed = &self.slots[..self.count];
+        &listed[self.place..]
+    }
+
     pub fn first(&self) -> Option<T>
         ensures { result ≡ first_of self.now }
     {
-        let listed = &self.slots[..self.count];
-        listed[self.place..].first().copied()
+        self.left().first().copied()
     }
 
     // Goes on to the next item, if one is left.

@@ -1,6 +1,6 @@
 -- The head put together from its parts.
-use Rattle.std.proofs.Common.{◌≡◌, ℕ, false, List}
-use Rattle.device.specs.BusyLayers.{Busied, busy_over}
+use Rattle.std.proofs.Common.{◌≡◌, ℕ, List}
+use Rattle.device.specs.BusyLayers.{Busied, new_busy, busy_over}
 use Rattle.device.specs.EventQueues.{event_queue}
 use Rattle.device.specs.RegisterFiles.{Registers, register_file, new_registers}
 use Rattle.device.specs.SlowLayers.{Slowed, slow_over}
@@ -18,7 +18,7 @@ pub serves : (h : HostBehaviour) (x : Served h) (counts known : ℕ × ℕ) (m n
 serves h x counts known m n e at is = cc
 
 -- the register file's layer, by the file below it
-pub idle_is : (m : Busied register_file) (f : Registers) → m ≡ record { number = 1; left = 0; inside = false; wrote = false; below = f } → f ≡ new_registers → m ≡ idle_registers
+pub idle_is : (m : Busied register_file) (f : Registers) → m ≡ new_busy register_file 1 f → f ≡ new_registers → m ≡ idle_registers
 idle_is m f e is_new = cc
 
 pub head_is : (u : BusModel head_hosts head_devices) (x : Served list_host) (y : Served poll_host) (z : Served list_host)

@@ -4,7 +4,7 @@ use Rattle.transfer.specs.declared.draft.Transfer.{Transfer}
 use Rattle.transfer.specs.Drafts.{TransferModel, transfer_model}
 use Rattle.transfer.specs.Legs.{LegModel, writes, reads}
 use Rattle.device.specs.Behaviours.{Behaviour}
-use Rattle.device.specs.BusyLayers.{Busied, busy_over}
+use Rattle.device.specs.BusyLayers.{Busied, new_busy, busy_over}
 use Rattle.device.specs.EventQueues.{event_queue}
 use Rattle.device.specs.RegisterFiles.{register_file, new_registers}
 use Rattle.device.specs.SlowLayers.{Slowed, slow_over}
@@ -60,7 +60,7 @@ PollsAt low high a x = (m : Polled) × Polls a m × (x ≡ serving poll_host low
 
 -- not busy yet, and busy for one select after a write
 abbrev pub idle_registers : Busied register_file
-idle_registers = record { number = 1; left = 0; inside = false; wrote = false; below = new_registers }
+idle_registers = new_busy register_file 1 new_registers
 
 -- it holds the clock for 5 ticks
 abbrev pub slow_queue : Slowed event_queue

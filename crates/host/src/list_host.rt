@@ -35,6 +35,13 @@ impl ListHost {
         Ok(())
     }
 
+    /// The transfers that are still to come, the one at its place first.
+    pub fn left(&self) -> &[Transfer]
+        ensures { result.now ≡ (listed self.now).rest }
+    {
+        self.transfers.left()
+    }
+
     // Each make has its own: a trait for it would be longer than this.
     pub fn last(&self) -> Option<Outcome>
         ensures { option_map outcome_model result ≡ (listed self.now).last }

@@ -28,6 +28,27 @@ impl PollHost {
         }
     }
 
+    /// The transfer that it repeats, also once the mask is met.
+    pub fn transfer(&self) -> Transfer
+        ensures { result ≡ (polled self.now).transfer }
+    {
+        self.transfer
+    }
+
+    /// A 1 for each bit of which one has to be 1 in the last byte read.
+    pub fn mask(&self) -> u8
+        ensures { result ≡ (polled self.now).mask }
+    {
+        self.mask
+    }
+
+    /// Whether the mask was met, so that nothing is wanted any more.
+    pub fn is_met(&self) -> bool
+        ensures { result ≡ (polled self.now).met }
+    {
+        self.met
+    }
+
     // Each make has its own: a trait for it would be longer than this.
     pub fn last(&self) -> Option<Outcome>
         ensures { option_map outcome_model result ≡ (polled self.now).last }

@@ -9,6 +9,7 @@ use Rattle.transfer.specs.Legs.{writes, reads}
 use Rattle.transfer.specs.Outcomes.{OutcomeModel}
 use Rattle.device.specs.Behaviours.{Behaviour}
 use Rattle.device.specs.BusyLayers.{Busied, busy_over}
+use Rattle.device.specs.declared.selection.Selection.TheVariants.{Closed}
 use Rattle.device.specs.EventQueues.{event_queue}
 use Rattle.device.specs.RegisterFiles.{Registers, new_registers, register_file}
 use Rattle.host.specs.Behaviours.{HostBehaviour}
@@ -89,7 +90,7 @@ abbrev pub stored_at_3 : ℕ → Registers
 stored_at_3 p = record { bytes = slice_set (replicate 16 0) 3 0x12; pointer = p; awaits = false }
 
 abbrev pub busy_registers : ℕ → Registers → Busied register_file
-busy_registers n m = record { number = 1; left = n; inside = false; wrote = false; below = m }
+busy_registers n m = record { number = 1; left = n; selection = Closed; below = m }
 
 -- a transfer carried alone to one device at 0x50, letter by letter: a row for each byte and its acknowledge, a repeated start or a stop
 pub record StringExamples : Type 0 where

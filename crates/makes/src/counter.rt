@@ -16,6 +16,13 @@ impl Counter {
     {
         Counter { takes: 0 }
     }
+
+    /// How many bytes were taken, modulo 256.
+    pub fn count(&self) -> u8
+        ensures { result ≡ counted self.now }
+    {
+        self.takes
+    }
 }
 
 impl Device for Counter {

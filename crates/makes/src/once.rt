@@ -23,6 +23,13 @@ impl Once {
         }
     }
 
+    /// The transfer that it wants once, also when it was told its outcome.
+    pub fn transfer(&self) -> Transfer
+        ensures { result ≡ (asked self.now).transfer }
+    {
+        self.transfer
+    }
+
     // Each make has its own: a trait for it would be longer than this.
     pub fn last(&self) -> Option<Outcome>
         ensures { option_map outcome_model result ≡ (asked self.now).last }

@@ -11,6 +11,7 @@ fn a_counter_gives_how_many_bytes_were_taken(rt: HostRuntime) {
     assert!(rt; counter.select(Direction::Read));
     assert_eq!(rt; counter.take(), 0);
     assert_eq!(rt; counter.take(), 1);
+    assert_eq!(rt; counter.count(), 2);
     assert_eq!(rt; counter.hold(), 2);
     counter.finish();
     assert!(rt; !counter.select(Direction::Write));

@@ -14,7 +14,7 @@ use Rattle.port.specs.declared.port.Mode.{Mode}
 use Rattle.port.specs.declared.port.Mode.TheVariants.{Out, Addressing, Writing, Acknowledging, Reading}
 use Rattle.port.specs.declared.port.Port.{Port}
 use Rattle.transfer.specs.Addresses.{answers_to}
-use Rattle.port.specs.Ports.{PortModel, port_model, port_step}
+use Rattle.port.specs.Ports.{PortModel, ForSomeHold, port_model, holding, port_step}
 
 -- whether it asks for how long to hold where a bit counts: at a ninth bit that leaves it in
 abbrev pub asks_hold_at_bit : Mode → Bool → Bool
@@ -88,3 +88,8 @@ module _ {D : Type 0} (device : Ghosts D) where
   -- what a tick makes of the device of a port, where hold answers h
   abbrev pub PortAsked : Port D → Signal → ℕ → Port D → Type 0
   PortAsked p s h q = let m = port_model device p in AskedBy p.device (asks device.behaviour m s) (asks_hold device.behaviour m s) h q.device
+
+  -- the device of a port was asked hold, once, and the port keeps its answer
+  abbrev pub HoldAsked : Port D → Port D → Type 0
+  HoldAsked p q = ForSomeHold (λ h. device.behaviour.holds (device.means q.device) h × AskedBy p.device [] true h q.device ×
+      (port_model device q ≡ holding device.behaviour (port_model device p) h))

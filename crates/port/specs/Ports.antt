@@ -54,14 +54,21 @@ module _ (b : Behaviour) where
   abbrev pub puts : PortModel b → Bool × b.Meaning → PortModel b
   puts p a = record { address = p.address; meaning = a.1; owed = p.owed; mode = cond a.0 (Acknowledging Write) Out; hold = p.hold }
 
+  -- its device answers h to hold
+  abbrev pub holding : PortModel b → ℕ → PortModel b
+  holding p h = record { address = p.address; meaning = p.meaning; owed = p.owed; mode = p.mode; hold = h }
+
   -- the ninth bit in a write, where hold answers h
   abbrev pub writes_on : PortModel b → ℕ → PortModel b
-  writes_on p h = record { address = p.address; meaning = p.meaning; owed = p.owed; mode = Writing (part 0 0); hold = h }
+  writes_on p h = holding (goes p (Writing (part 0 0))) h
+
+  abbrev pub takes : PortModel b → ℕ × b.Meaning → PortModel b
+  takes p a = record { address = p.address; meaning = a.1; owed = p.owed; mode = Reading (part 0 a.0); hold = p.hold }
 
   -- the ninth bit in a read: an N puts the port out, and at an A it takes a byte
   abbrev pub reads_on : PortModel b → Bool → ℕ × b.Meaning → ℕ → PortModel b
   reads_on p true a h = goes p Out
-  reads_on p false a h = record { address = p.address; meaning = a.1; owed = p.owed; mode = Reading (part 0 a.0); hold = h }
+  reads_on p false a h = holding (takes p a) h
 
   -- a bit counts
   abbrev pub counts : PortModel b → Mode → Bool → ℕ → PortModel b

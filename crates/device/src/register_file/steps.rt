@@ -22,6 +22,13 @@ impl RegisterFile {
     {
         self.bytes
     }
+
+    /// The register that the next byte is stored in or taken from, from 0 to 15.
+    pub fn pointer(&self) -> u8
+        ensures { result ≡ (registers self.now).pointer }
+    {
+        self.pointer
+    }
 }
 
 impl Device for RegisterFile {

@@ -23,6 +23,20 @@ impl<H: Host> Master<H> {
         }
     }
 
+    /// For how many ticks it holds the clock low, and then high.
+    pub fn clock(&self) -> ClockPair
+        ensures { result ≡ self.now.state.clock }
+    {
+        self.state.clock
+    }
+
+    /// The host, as it stands, also in the middle of a turn.
+    pub fn host(&self) -> &H
+        ensures { result.now ≡ self.now.host }
+    {
+        &self.host
+    }
+
     // The host, as it stands.
     pub fn into_host(self) -> H
         ensures { result ≡ self.host }

@@ -1,7 +1,7 @@
 // How a port steps, and what it asks its device.
 ghost use Rattle.std.specs.Prelude.{◌≡◌, true, false, not};
 ghost use Rattle.port.specs.Ports.{ForSomeHold, SameDevice, port_new, port_model, mode_pulls, port_pulls, counts, reads_on, settles, port_step, new_port};
-ghost use Rattle.port.specs.Asks.{asks_finish, asks_at_bit, asks_take, asks_hold_at_bit, AskedBy, PortAsked, MayAnswer};
+ghost use Rattle.port.specs.Asks.{asks_finish, asks_at_bit, asks_take, asks_hold_at_bit, AskedBy, PortAsked, HoldAsked, MayAnswer};
 ghost use Rattle.port.specs.declared.port.Mode.TheVariants.{Addressing, Writing, Reading};
 
 use super::{Mode, Port};
@@ -33,6 +33,20 @@ impl<D: Device> Port<D> {
             owes_finish: false,
             hold: 0,
         }
+    }
+
+    /// The address that it answers to.
+    pub fn address(&self) -> Address
+        ensures { result ≡ self.now.address }
+    {
+        self.address
+    }
+
+    /// The device, as it stands, also in the middle of a selection.
+    pub fn device(&self) -> &D
+        ensures { result.now ≡ self.now.device }
+    {
+        &self.device
     }
 
     // The device, as it stands.
@@ -79,7 +93,7 @@ impl<D: Device> Port<D> {
             (Mode::Writing(byte), Event::Fall, Some(bit)) => self.write_bit(byte, bit),
             (Mode::Acknowledging(Direction::Write), Event::Fall, Some(_)) => {
                 self.mode = Mode::Writing(Partial::of(0));
-                self.hold = self.device.hold();
+                self.ask_hold();
             }
             (Mode::Acknowledging(Direction::Read), Event::Fall, Some(bit)) => self.read_on(bit),
             (Mode::Reading(byte), Event::Fall, Some(bit)) => self.read_bit(byte, bit),
@@ -155,7 +169,14 @@ impl<D: Device> Port<D> {
             self.mode = Mode::Out;
         } else {
             self.mode = Mode::Reading(Partial::of(self.device.take()));
-            self.hold = self.device.hold();
+            self.ask_hold();
         }
+    }
+
+    // Asks its device for how long to hold the clock, and keeps the answer.
+    fn ask_hold(&mut self)
+        ensures { HoldAsked D.Device self.old self.new }
+    {
+        self.hold = self.device.hold();
     }
 }

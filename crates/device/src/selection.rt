@@ -1,0 +1,39 @@
+// Where a device is in a selection, which lasts from a select that got yes to the next finish.
+ghost use Rattle.std.specs.Prelude.{◌≡◌};
+ghost use Rattle.device.specs.Selections.{after_select, after_put, is_written};
+
+#[derive(Clone, Copy, PartialEq, Eq, Debug)]
+pub enum Selection {
+    Closed,
+    Open,
+    // a put got yes in it
+    Written,
+}
+
+impl Selection {
+    // After a select with this answer.
+    pub(crate) fn after_select(self, yes: bool) -> Selection
+        ensures { result ≡ after_select self yes }
+    {
+        match (self, yes) {
+            (Selection::Closed, true) => Selection::Open,
+            _ => self,
+        }
+    }
+
+    // After a put with this answer.
+    pub(crate) fn after_put(self, yes: bool) -> Selection
+        ensures { result ≡ after_put self yes }
+    {
+        match (self, yes) {
+            (Selection::Open, true) => Selection::Written,
+            _ => self,
+        }
+    }
+
+    pub(crate) fn is_written(self) -> bool
+        ensures { result ≡ is_written self }
+    {
+        self == Selection::Written
+    }
+}
