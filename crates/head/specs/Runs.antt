@@ -3,7 +3,7 @@ use Rattle.std.specs.Prelude.{ℕ, ◌*◌, List, [], ◌++◌, codes, decimal, 
 use Rattle.std.specs.declared.io.Error.{Error}
 use Rattle.transfer.specs.Outcomes.{OutcomeModel}
 use Rattle.law.specs.Buses.{BusModel}
-use Rattle.law.specs.Laws.{most_ticks_of_turn}
+use Rattle.law.specs.Limits.{most_ticks_of_turn}
 use Rattle.printing.specs.Outputs.{Puts}
 use Rattle.printing.specs.Runs.{Listened, OnlyRun}
 use Rattle.text.specs.Outcomes.{bytes_text, outcome_text}

@@ -1,5 +1,6 @@
 -- Which leg a cursor is in, and how many bytes it may have read by then. Assumes nothing.
 use Rattle.std.specs.Prelude.{ℕ, ◌+◌, ◌-◌, ◌*◌, None, Option}
+use Rattle.transfer.specs.Limits.{most_bytes, most_legs}
 use Rattle.transfer.specs.declared.leg.Leg.{Leg}
 use Rattle.master.specs.declared.cursor.At.{At}
 use Rattle.master.specs.declared.cursor.At.TheVariants.{InLeg, Restart, End}
@@ -14,8 +15,8 @@ abbrev pub leg_to_come : Rest → Option Leg
 leg_to_come (First o) = o
 leg_to_come Second = None
 
--- a leg reads at most 16 bytes, and byte y + 1 is the leg's byte y
+-- a leg reads at most most_bytes, and byte y + 1 is the leg's byte y
 abbrev pub most_read : At → Rest → ℕ → ℕ
-most_read InLeg s y = 16 * leg_number s + (y - 1)
-most_read Restart s y = 16
-most_read End s y = 32
+most_read InLeg s y = most_bytes * leg_number s + (y - 1)
+most_read Restart s y = most_bytes
+most_read End s y = most_legs * most_bytes
