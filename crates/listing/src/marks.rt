@@ -2,6 +2,7 @@
 ghost use Rattle.std.specs.Prelude.{◌≡◌};
 ghost use Rattle.listing.specs.Listings.{acknowledge_of};
 
+use law::MOST_MASTERS;
 use master::Mark;
 
 mod lines;
@@ -45,5 +46,5 @@ pub struct Marks {
     pub tick: u64,
     pub wire: WireMark,
     // who lost, and at a stop who was told
-    pub masters: [Mark; 8],
+    pub masters: [Mark; MOST_MASTERS],
 }
