@@ -2,7 +2,7 @@
 use Rattle.std.proofs.Common.{◌≡◌, ℕ, List, ◌++◌, codes, Option, Some, None, Result, refl, sym, ap, ◌∙◌, append-nil, append_assoc}
 use Rattle.transfer.specs.Outcomes.{OutcomeModel}
 use Rattle.law.specs.Buses.{BusModel, NeverHold, no_holds}
-use Rattle.law.specs.Laws.{most_ticks_of_turn}
+use Rattle.law.specs.Limits.{most_ticks_of_turn}
 use Rattle.law.specs.Runs.{RunModel, run_at}
 use Rattle.parts.specs.Arms.{all_armed}
 use Rattle.examples.specs.Runs.{joined_line, queues_ran}

@@ -2,7 +2,7 @@
 use Rattle.std.proofs.Common.{◌≡◌, ℕ, suc, true, false, None, Some, refl, sym, ap, ◌∙◌}
 use Rattle.law.specs.declared.tick.Tick.{Tick}
 use Rattle.law.specs.Buses.{BusModel, no_holds, tick_at}
-use Rattle.law.specs.Laws.{most_ticks_of_turn}
+use Rattle.law.specs.Limits.{most_ticks_of_turn}
 use Rattle.parts.specs.Arms.{all_armed}
 use Rattle.wire.specs.declared.wire.Event.{Event}
 use Rattle.wire.specs.declared.wire.Event.TheVariants.{Rise, Fall, Start, Stop, SteadyHigh, SteadyLow}

@@ -12,7 +12,7 @@ use Rattle.host.specs.Behaviours.{HostBehaviour}
 use Rattle.host.specs.ListHosts.{Listed, list_host}
 use Rattle.law.specs.declared.tick.Tick.{Tick}
 use Rattle.law.specs.Buses.{BusModel, no_holds, tick_at}
-use Rattle.law.specs.Laws.{most_ticks_of_turn}
+use Rattle.law.specs.Limits.{most_ticks_of_turn}
 use Rattle.law.specs.Runs.{run_at}
 use Rattle.listing.specs.Lines.{told_text}
 use Rattle.parts.specs.Arms.{all_armed}

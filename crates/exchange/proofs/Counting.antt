@@ -14,6 +14,7 @@ use Rattle.master.specs.Serving.{Served, mark_of, outcome_told, served_mark, ser
 use Rattle.master.specs.Masters.{VerdictModel, quiet, lost, told, master_step}
 use Rattle.master.specs.Scripts.{transfers}
 use Rattle.exchange.specs.Calls.{TickAsked, GoesOnAsked, RunAsked}
+use Rattle.law.specs.Limits.{most_ticks}
 use Rattle.law.specs.Runs.{how_many, is_told, tolds, Running, setting_out, ticked, goes_on, GoesOnAnswered, RunAnswered, load, run_at}
 
 told_marks : (v : VerdictModel transfers) (ms : List Mark) (os : List (Option OutcomeModel)) → tolds ms ≡ how_many os → tolds (mark_of v ∷ ms) ≡ how_many (outcome_told v ∷ os)
@@ -114,7 +115,7 @@ module _ (hs : List HostBehaviour) (ds : List Behaviour) {P : Type 0} (asked : P
   no_call_more r b (suc m) q over = ((λ rest. refl), (λ up. absurd (elim over [ inl e ↦ cc | inr e ↦ cc ])))
 
   -- a run is over at rest, or once all its ticks are made
-  pub run_is : (u : BusModel hs ds) (p : P) (r : Running hs ds) (q : P) (n l : ℕ) → n ≤ 1000000 → r.ticks ≤ n → l ≡ load r.busy r.ticks →
+  pub run_is : (u : BusModel hs ds) (p : P) (r : Running hs ds) (q : P) (n l : ℕ) → n ≤ most_ticks → r.ticks ≤ n → l ≡ load r.busy r.ticks →
       (r.ticks ≡ n) ⊎ (true ≡ is_at_rest hs ds r.bus) → Reached u p r q →
       (a : ℕ → Holds ds) × RunAnswered hs ds u n a × ((Ok (record { ticks = r.ticks; outcomes = r.outcomes; load = l }), r.bus) ≡ run_at hs ds u n a) × RunAsked hs ds asked u n a p q
   run_is u p r q n l few most load_is over so =
@@ -128,11 +129,11 @@ module _ (hs : List HostBehaviour) (ds : List Behaviour) {P : Type 0} (asked : P
       let calls : GoesOnAsked hs ds asked n so.answers (setting_out hs ds u) p q =
       subst (λ n. GoesOnAsked hs ds asked n so.answers (setting_out hs ds u) p q) (sym parts)
       (so.calls so.answers (λ k lt. refl) (n - r.ticks) q (no_call_more r so.answers (n - r.ticks) q left)) in
-      let accepted : ltb 1000000 n ≡ false = le-ltb 1000000 n few in
+      let accepted : ltb most_ticks n ≡ false = le-ltb most_ticks n few in
       (so.answers, (λ e. may), rw (load_is, accepted, all), ((λ many. absurd (let no : true ≡ false = sym many ∙ accepted in cc)), (λ e. calls)))
 
-  pub refused : (u : BusModel hs ds) (p : P) (n : ℕ) → 1000000 < n → (a : ℕ → Holds ds) × RunAnswered hs ds u n a × ((Err 8, u) ≡ run_at hs ds u n a) × RunAsked hs ds asked u n a p p
+  pub refused : (u : BusModel hs ds) (p : P) (n : ℕ) → most_ticks < n → (a : ℕ → Holds ds) × RunAnswered hs ds u n a × ((Err 8, u) ≡ run_at hs ds u n a) × RunAsked hs ds asked u n a p p
   refused u p n many =
-      let e : ltb 1000000 n ≡ true = lt-ltb 1000000 n many in
-      let never : ltb 1000000 n ≡ false → ⊥ = λ few. (let f : true ≡ false = sym e ∙ few in cc) in
+      let e : ltb most_ticks n ≡ true = lt-ltb most_ticks n many in
+      let never : ltb most_ticks n ≡ false → ⊥ = λ few. (let f : true ≡ false = sym e ∙ few in cc) in
       ((λ k. no_holds ds), (λ few. absurd (never few)), rw e, ((λ many. refl), (λ few. absurd (never few))))

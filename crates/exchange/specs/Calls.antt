@@ -9,6 +9,7 @@ use Rattle.exchange.specs.declared.bus.Run.{Run}
 use Rattle.exchange.specs.Parts.{bus_model, run_model}
 use Rattle.law.specs.declared.tick.Tick.{Tick}
 use Rattle.law.specs.Buses.{BusModel, Holds, Answered, levels_at, tick_at, is_at_rest}
+use Rattle.law.specs.Limits.{most_ticks}
 use Rattle.law.specs.Runs.{Running, setting_out, ticked, RunAnswered, run_at}
 use Rattle.transfer.specs.declared.refusal.Refusal.{Refusal}
 use Rattle.transfer.specs.Refusals.{answer}
@@ -29,7 +30,7 @@ module _ (hs : List HostBehaviour) (ds : List Behaviour) {P : Type 0} (asked : P
 
   -- by those of a whole run; one that is refused makes none
   abbrev pub RunAsked : BusModel hs ds → ℕ → (ℕ → Holds ds) → P → P → Type 0
-  RunAsked u n a p q = (nat_lt 1000000 n ≡ true → q ≡ p) × (nat_lt 1000000 n ≡ false → GoesOnAsked n a (setting_out hs ds u) p q)
+  RunAsked u n a p q = (nat_lt most_ticks n ≡ true → q ≡ p) × (nat_lt most_ticks n ≡ false → GoesOnAsked n a (setting_out hs ds u) p q)
 
 module _ {M P : Type 0} {masters : masters.Ghosts M} {ports : ports.Ghosts P} where
   -- one tick of u shows t and leaves v, for some answers to hold that the devices may give

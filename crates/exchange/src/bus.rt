@@ -1,5 +1,6 @@
 // The bus: the wire, a bank of masters and a bank of ports.
 ghost use Rattle.std.specs.Prelude.{◌≤◌, length};
+ghost use Rattle.law.specs.Limits.{most_masters};
 
 use crate::bank::{Masters, Ports};
 use wire::Wire;
@@ -14,8 +15,8 @@ pub struct Bus<M: Masters, P: Ports> {
     wire: Wire,
     masters: M,
     ports: P,
-    // a tick has eight marks, one for each master
-    ghost few_masters: { length M.Masters.hosts ≤ 8 },
+    // a tick has a mark for each master
+    ghost few_masters: { length M.Masters.hosts ≤ most_masters },
 }
 
 // What a run answers: the ticks made, the outcomes told in them, and the busy ticks in thousandths of these ticks.

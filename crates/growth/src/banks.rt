@@ -3,6 +3,7 @@ ghost use Rattle.std.specs.Prelude.{◌≡◌, ◌+◌, ◌*◌, ◌≤◌, IsOk
 ghost use Rattle.growth.specs.Sizes.{WritesQuick, WritesSlow, file_at};
 ghost use Rattle.master.specs.Serving.{served};
 ghost use Rattle.port.specs.Ports.{port_model};
+ghost use Rattle.transfer.specs.Limits.{least_address, most_address};
 ghost use Rattle.workload.specs.Works.{WritesForEver};
 
 use device::{Device, RegisterFile};
@@ -46,7 +47,7 @@ fn slow() -> Master<PollHost>
 
 pub fn file(address: u32) -> Result<Port<RegisterFile>, Refusal>
     ensures made { IfOk result (λ p. port_model ⟦<RegisterFile as Device>⟧ p ≡ file_at address) }
-    ensures fits { 8 ≤ address → address ≤ 119 → IsOk result }
+    ensures fits { least_address ≤ address → address ≤ most_address → IsOk result }
 {
     Ok(Port::new(Address::new(address)?, RegisterFile::new()))
 }

@@ -2,6 +2,7 @@
 ghost use Rattle.std.specs.Prelude.{◌≤◌, length};
 ghost use Rattle.exchange.specs.Parts.{bus_model};
 ghost use Rattle.law.specs.Buses.{BusModel};
+ghost use Rattle.law.specs.Limits.{most_masters};
 ghost use Rattle.workload.specs.Works.{Worked};
 ghost use Rattle.growth.specs.Sizes.{MeasuredWith, Measured};
 
@@ -25,7 +26,7 @@ fn count<M: Masters + Drop, P: Ports + Drop>(work: Work, mut bus: Bus<M, P>) -> 
 // A match on the number, here and below, and no table: each size of a bank is a type of its own.
 fn with_ports<M: Masters + Drop>(work: Work, masters: M) -> Option<u64>
     requires some_master { 1 ≤ length M.Masters.hosts }
-    requires few_masters { length M.Masters.hosts ≤ 8 }
+    requires few_masters { length M.Masters.hosts ≤ most_masters }
     ensures { MeasuredWith M.Masters.hosts (M.Masters.stand masters) work.masters work.ports work.ticks result }
 {
     let count = match work.ports {

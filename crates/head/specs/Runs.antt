@@ -4,7 +4,7 @@ use Rattle.std.specs.declared.io.Error.{Error}
 use Rattle.transfer.specs.Outcomes.{OutcomeModel}
 use Rattle.transfer.specs.OutcomeTexts.{outcome_text}
 use Rattle.law.specs.Buses.{BusModel}
-use Rattle.law.specs.Laws.{most_ticks_of_turn}
+use Rattle.law.specs.Limits.{most_ticks_of_turn}
 use Rattle.printing.specs.Outputs.{Puts}
 use Rattle.printing.specs.Runs.{Listened, OnlyRun}
 use Rattle.text.specs.Digits.{bytes_text}

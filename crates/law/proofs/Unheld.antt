@@ -11,6 +11,7 @@ use Rattle.wire.specs.Wires.{signal}
 use Rattle.law.specs.Banks.{Bank}
 use Rattle.law.specs.Buses.{BusModel, Holds, AllMayAnswer, NeverHold, no_holds, Answered, ports_step, tick_at, told_at, levels_at, is_at_rest}
 use Rattle.law.specs.Runs.{how_many, Running, ticked, goes_on, GoesOnAnswered, setting_out, reported, RunAnswered, run_at}
+use Rattle.law.specs.Limits.{most_ticks}
 
 module _ (b : Behaviour) where
   unasked_at_bit : (p : PortModel b) (m : Mode) (x : Bool) (h k : ℕ) → asks_hold_at_bit m x ≡ false → counts b p m x h ≡ counts b p m x k
@@ -62,5 +63,5 @@ module _ (hs : List HostBehaviour) (ds : List Behaviour) where
   pub run_unheld : (u : BusModel hs ds) (n : ℕ) (a : ℕ → Holds ds) → NeverHold ds → RunAnswered hs ds u n a →
       run_at hs ds u n a ≡ run_at hs ds u n (λ k. no_holds ds)
   run_unheld u n a never may =
-      unless (nat_lt 1000000 n) (Err 8, u) _ _ (λ few.
+      unless (nat_lt most_ticks n) (Err 8, u) _ _ (λ few.
       ap (λ r. (Ok (reported hs ds r), r.bus)) (goes_on_unheld n a (setting_out hs ds u) never (may few)))

@@ -18,6 +18,7 @@ use Rattle.law.specs.Books.{contends_with, closed, opened}
 use Rattle.law.specs.Buses.{told_at}
 use Rattle.law.specs.Carrying.{Placed, joined, carried}
 use Rattle.law.specs.Facts.{read_leg}
+use Rattle.law.specs.Limits.{bits_of_byte, letters_of_byte}
 use Rattle.law.specs.Strings.{Letter}
 use Rattle.law.specs.Laws.{Call, Use, event_at, watched, asks_at, nothing_asked, asked_then, beginning, used}
 
@@ -68,8 +69,8 @@ leg_of t (suc (suc k)) = None
 
 -- where in the string of a transfer the acknowledge stands that follows the call of leg k and m bytes written in it
 abbrev pub acknowledge_at : TransferModel → ℕ → ℕ → ℕ
-acknowledge_at t zero m = 9 * m + 8
-acknowledge_at t (suc k) m = 9 * suc (body_size t.first.body) + suc (9 * m + 8)
+acknowledge_at t zero m = letters_of_byte * m + bits_of_byte
+acknowledge_at t (suc k) m = letters_of_byte * suc (body_size t.first.body) + suc (letters_of_byte * m + bits_of_byte)
 
 abbrev pub EndsWith : List Step → List Step → Type 0
 EndsWith ss end = (front : List Step) × (ss ≡ front ++ end)

@@ -12,6 +12,7 @@ use Rattle.wire.specs.declared.wire.Pulls.{Pulls}
 use Rattle.wire.specs.declared.wire.Signal.{Signal}
 use Rattle.wire.specs.declared.wire.Wire.{Wire}
 use Rattle.law.specs.Banks.{Bank, each, listed, nth, any_true}
+use Rattle.law.specs.Limits.{most_masters}
 use Rattle.master.specs.Serving.{Served, served_step, served_mark, served_told, served_pulls, served_armed, served_new, served_arm}
 use Rattle.port.specs.Asks.{MayAnswer}
 use Rattle.port.specs.Ports.{PortModel, port_pulls, port_step, port_new}
@@ -85,7 +86,7 @@ module _ (hs : List HostBehaviour) (ds : List Behaviour) where
   }
 
   abbrev pub marks_at : BusModel → Levels → List Mark
-  marks_at u v = over (listed (λ h. served_mark h (signal u.wire v)) hs u.masters) (replicate 8 Quiet)
+  marks_at u v = over (listed (λ h. served_mark h (signal u.wire v)) hs u.masters) (replicate most_masters Quiet)
 
   abbrev pub shown_at : BusModel → Levels → Tick
   shown_at u v = record { levels = v; event = event u.wire.last v; marks = marks_at u v }

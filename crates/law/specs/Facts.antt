@@ -9,6 +9,7 @@ use Rattle.device.specs.Behaviours.{Behaviour}
 use Rattle.law.specs.Banks.{Bank, each, listed, Every}
 use Rattle.law.specs.Carrying.{Placed, Taking, selected, put_to, taken_from, gives, joined, somebody, passed, carried}
 use Rattle.law.specs.Legal.{Legal}
+use Rattle.law.specs.Limits.{bits_of_byte, letters_of_byte, most_letters}
 use Rattle.wire.specs.Octets.{digit}
 use Rattle.transfer.specs.Addresses.{answers_to}
 use Rattle.law.specs.Strings.{Letter, stop, restart, one, rank, first_or_same}
@@ -57,7 +58,7 @@ SameConditions ts us = (k : ℕ) → condition (slice_index_or ts k stop) ≡ co
 -- the strings of transfers carried alone, over two banks of devices, which may be one
 pub record StringLaws (ds es : List Behaviour) : Type 0 where
   pub one_stop : (t : TransferModel) (d : Bank Placed ds) → OneStop (carried ds t d).letters
-  pub at_most_308 : (t : TransferModel) (d : Bank Placed ds) → Legal t → length (carried ds t d).letters ≤ 308
+  pub at_most : (t : TransferModel) (d : Bank Placed ds) → Legal t → length (carried ds t d).letters ≤ most_letters
   -- no string begins another
   pub none_begins : (t u : TransferModel) (d : Bank Placed ds) (e : Bank Placed es) (ts : List Letter) → (carried ds t d).letters ++ ts ≡ (carried es u e).letters → ts ≡ []
   -- the string alone says the outcome
@@ -114,13 +115,14 @@ Only (b ∷ ds) d x = ((d.0.inside ≡ true) × ((b.take d.0.meaning).0 ≡ x) �
 -- what an acknowledged byte and a read byte have to do with the devices, in leg number k
 pub record ByteLaws (ds : List Behaviour) : Type 0 where
   -- byte y of a write, heard low at its ninth bit, was put to such a device
-  pub put_so : (k a : ℕ) (xs : List ℕ) (d : Bank Placed ds) (y : ℕ) → y < length xs → slice_index_or (passed ds k (write_leg a xs) d).levels (9 * suc y + 8) true ≡ false →
+  pub put_so : (k a : ℕ) (xs : List ℕ) (d : Bank Placed ds) (y : ℕ) → y < length xs →
+      slice_index_or (passed ds k (write_leg a xs) d).levels (letters_of_byte * suc y + bits_of_byte) true ≡ false →
       Exists (Accepts a (slice_index xs y)) ds (having ds (take y xs) (each (λ b. selected b a Write) ds d))
   -- byte y of an answered read is what those in give then
   pub read_so : (k a n : ℕ) (d : Bank Placed ds) (y : ℕ) → y < n → (passed ds k (read_leg a n) d).kind ≡ Done →
       slice_index (passed ds k (read_leg a n) d).bytes y ≡ byte_given ds (given ds y (each (λ b. selected b a Read) ds d))
   -- its 1 bits are those that all gave
-  pub all_gave : (e : Bank Taking ds) (k : ℕ) → k < 8 →
+  pub all_gave : (e : Bank Taking ds) (k : ℕ) → k < bits_of_byte →
       (digit (byte_given ds e) k ≡ true) ↔ Every (λ b p. p.inside ≡ true → digit (b.take p.meaning).0 k ≡ true) ds e
   -- what the only one in gave is read as it is
   pub only_gave : (e : Bank Taking ds) (x : ℕ) → x < 256 → Only ds e x → byte_given ds e ≡ x

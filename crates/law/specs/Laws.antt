@@ -7,6 +7,7 @@ use Rattle.host.specs.Behaviours.{HostBehaviour}
 use Rattle.master.specs.declared.arming.Arming.TheVariants.{Unarmed}
 use Rattle.master.specs.declared.mark.Mark.{Mark}
 use Rattle.master.specs.declared.mark.Mark.TheVariants.{Quiet, Told, Lost}
+use Rattle.transfer.specs.Limits.{most_count}
 use Rattle.wire.specs.declared.wire.Event.{Event}
 use Rattle.wire.specs.declared.wire.Event.TheVariants.{Rise, Fall, Start, Stop, SteadyHigh, SteadyLow}
 use Rattle.law.specs.Banks.{Bank, each, listed, Every, any_true}
@@ -14,6 +15,7 @@ use Rattle.law.specs.Books.{Entry, entry_armed, closed, opened, is_open, Book, b
 use Rattle.law.specs.Buses.{BusModel, Holds, over, made, arm_at, levels_at, tick_at, told_at, is_at_rest}
 use Rattle.master.specs.Serving.{Served, served_armed, served_mark, served_pulls}
 use Rattle.law.specs.Carrying.{Placed, Carried}
+use Rattle.law.specs.Limits.{most_masters, most_ticks, most_ticks_of_turn}
 use Rattle.port.specs.Ports.{PortModel}
 use Rattle.port.specs.Asks.{asks}
 use Rattle.law.specs.Runs.{how_many, is_told, RunModel, run_at}
@@ -79,13 +81,9 @@ pub record FirstDifference (t u : List Letter) (c : ℕ) : Type 0 where
   pub same : (k : ℕ) → k < c → slice_index_or t k low ≡ slice_index_or u k low
   pub less : rank (slice_index_or t c low) < rank (slice_index_or u c low)
 
--- no so many ticks with a master armed pass without an outcome: a turn takes fewer, at the slowest clocks and holds too
-abbrev pub most_ticks_of_turn : ℕ
-most_ticks_of_turn = 160000
-
--- every clock count is 1 to 255
+-- every clock count is 1 to most_count
 abbrev pub Clocked : (hs : List HostBehaviour) → Bank Served hs → Type 0
-Clocked hs ms = Every (λ h x. (1 ≤ x.master.low) × (x.master.low ≤ 255) × (1 ≤ x.master.high) × (x.master.high ≤ 255)) hs ms
+Clocked hs ms = Every (λ h x. (1 ≤ x.master.low) × (x.master.low ≤ most_count) × (1 ≤ x.master.high) × (x.master.high ≤ most_count)) hs ms
 
 module _ (hs : List HostBehaviour) (ds : List Behaviour) where
   -- a call: an arm, a tick with the answers to hold in it, or a run with the answers in each of its ticks
@@ -154,7 +152,7 @@ module _ (hs : List HostBehaviour) (ds : List Behaviour) where
   abbrev pub calls : Use → Call → Use
   calls x (arms n) = arm_counted x (arm_at hs ds x.bus n) n
   calls x (ticks a) = ticks_once x a
-  calls x (runs n a) = cond (nat_lt 1000000 n) x (run_on n 0 a x)
+  calls x (runs n a) = cond (nat_lt most_ticks n) x (run_on n 0 a x)
 
   abbrev pub used : Use → List Call → Use
   used x cs = fold calls x cs
@@ -216,7 +214,8 @@ module _ (hs : List HostBehaviour) (ds : List Behaviour) where
     pub tells : told_at hs ds x.bus ≡ book_tells hs ds x.book (event_at x.bus)
     -- it shows the levels, the event and the marks of which this law speaks; a number without a master has the mark Quiet.
     -- A mark tells of an outcome exactly where one is told
-    pub shows : (a : Holds ds) → (tick_at hs ds x.bus a).0 ≡ record { levels = levels_at hs ds x.bus; event = event_at x.bus; marks = over (marks_of x.bus) (replicate 8 Quiet) }
+    pub shows : (a : Holds ds) → (tick_at hs ds x.bus a).0 ≡
+        record { levels = levels_at hs ds x.bus; event = event_at x.bus; marks = over (marks_of x.bus) (replicate most_masters Quiet) }
     pub marks : map is_told (marks_of x.bus) ≡ map is_some (told_at hs ds x.bus)
     pub loses : (i : ℕ) → slice_index_or (marks_of x.bus) i Quiet ≡ Lost → Loses x i
     pub stops : event_at x.bus ≡ Stop → x.book.turn ≡ opened → (i : ℕ) (own : Carried ds) →
@@ -233,7 +232,7 @@ module _ (hs : List HostBehaviour) (ds : List Behaviour) where
   abbrev pub ticks_of_call : Use → Call → ℕ
   ticks_of_call x (arms n) = 0
   ticks_of_call x (ticks a) = 1
-  ticks_of_call x (runs n a) = cond (nat_lt 1000000 n) 0 (ticks_of_run n 0 a x)
+  ticks_of_call x (runs n a) = cond (nat_lt most_ticks n) 0 (ticks_of_run n 0 a x)
 
   abbrev pub ticks_of : Use → List Call → ℕ
   ticks_of x [] = 0
@@ -260,7 +259,7 @@ module _ (hs : List HostBehaviour) (ds : List Behaviour) where
     -- an arm answers as the book's
     pub arm : (n : ℕ) → (arm_at hs ds x.bus n).0 ≡ (book_arm hs ds x.book n).0
     -- a run counts the outcomes told in it
-    pub run : (n : ℕ) (a : ℕ → Holds ds) → n ≤ 1000000 → (r : RunModel) → (run_at hs ds x.bus n a).0 ≡ Ok r →
+    pub run : (n : ℕ) (a : ℕ → Holds ds) → n ≤ most_ticks → (r : RunModel) → (run_at hs ds x.bus n a).0 ≡ Ok r →
         ((calls x (runs n a)).told ≡ x.told + r.outcomes) × (ticks_of_call x (runs n a) ≡ r.ticks)
     -- and leaves the bus of this use, also where it is refused
     pub run_leaves : (n : ℕ) (a : ℕ → Holds ds) → (run_at hs ds x.bus n a).1 ≡ (calls x (runs n a)).bus

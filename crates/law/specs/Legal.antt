@@ -1,4 +1,4 @@
--- Which transfers are legal: addresses that are not reserved, at most 16 bytes, and a read of at least one. Assumes nothing.
+-- Which transfers are legal: no reserved address, no more bytes than a leg may have, and a read of at least one. Assumes nothing.
 use Rattle.std.specs.Prelude.{◌≤◌, length, Some, None, Option}
 use Rattle.transfer.specs.Drafts.{TransferModel}
 use Rattle.transfer.specs.Legs.{BodyModel, writes, reads, LegModel}

@@ -1,3 +1,4 @@
+pub mod Limits
 pub mod Banks
 pub mod Buses
 pub mod Strings

@@ -6,6 +6,7 @@ use Rattle.host.specs.Behaviours.{HostBehaviour}
 use Rattle.master.specs.declared.mark.Mark.{Mark}
 use Rattle.master.specs.declared.mark.Mark.TheVariants.{Quiet, Told, Lost}
 use Rattle.law.specs.Buses.{BusModel, Holds, Answered, tick_at, told_at, is_at_rest}
+use Rattle.law.specs.Limits.{most_ticks}
 
 abbrev pub how_many : {A : Type 0} → List (Option A) → ℕ
 how_many os = count_by is_some os
@@ -61,10 +62,10 @@ module _ (hs : List HostBehaviour) (ds : List Behaviour) where
   abbrev pub reported : Running → RunModel
   reported r = record { ticks = r.ticks; outcomes = r.outcomes; load = load r.busy r.ticks }
 
-  -- more than a million ticks are refused with 8
+  -- more ticks than a run may make are refused with 8
   abbrev pub run_at : BusModel hs ds → ℕ → (ℕ → Holds ds) → Result RunModel ℕ × BusModel hs ds
-  run_at u n a = cond (nat_lt 1000000 n) (Err 8, u) (let r = goes_on n a (setting_out u) in (Ok (reported r), r.bus))
+  run_at u n a = cond (nat_lt most_ticks n) (Err 8, u) (let r = goes_on n a (setting_out u) in (Ok (reported r), r.bus))
 
   -- in each tick of such a run the answers are ones that the devices may give
   abbrev pub RunAnswered : BusModel hs ds → ℕ → (ℕ → Holds ds) → Type 0
-  RunAnswered u n a = nat_lt 1000000 n ≡ false → GoesOnAnswered n a (setting_out u)
+  RunAnswered u n a = nat_lt most_ticks n ≡ false → GoesOnAnswered n a (setting_out u)

@@ -5,4 +5,4 @@ mod promises;
 mod tick;
 
 pub use promises::{restart_over_one, worked_examples};
-pub use tick::Tick;
+pub use tick::{MOST_MASTERS, Tick};

@@ -1,4 +1,5 @@
 // What one tick shows of the wire and of the masters.
+use law::MOST_MASTERS;
 use master::Mark;
 use wire::Decoded;
 
@@ -12,5 +13,5 @@ pub struct Marks {
     pub tick: u64,
     pub wire: Decoded,
     // who lost, and at a stop who was told
-    pub masters: [Mark; 8],
+    pub masters: [Mark; MOST_MASTERS],
 }

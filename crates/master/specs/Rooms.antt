@@ -1,7 +1,7 @@
 -- Which leg a cursor is in, and how many bytes it may have read by then. Assumes nothing.
 use Rattle.std.specs.Prelude.{ℕ, ◌+◌, ◌-◌, ◌*◌, None, Option}
+use Rattle.transfer.specs.Limits.{most_bytes, most_legs}
 use Rattle.transfer.specs.declared.leg.Leg.{Leg}
-use Rattle.transfer.specs.Limits as limits
 use Rattle.master.specs.declared.cursor.At.{At}
 use Rattle.master.specs.declared.cursor.At.TheVariants.{InLeg, Restart, End}
 use Rattle.master.specs.declared.cursor.Rest.{Rest}
@@ -17,6 +17,6 @@ leg_to_come Second = None
 
 -- byte y + 1 is the leg's byte y
 abbrev pub most_read : At → Rest → ℕ → ℕ
-most_read InLeg s y = limits.most_bytes * leg_number s + (y - 1)
-most_read Restart s y = limits.most_bytes
-most_read End s y = limits.most_read
+most_read InLeg s y = most_bytes * leg_number s + (y - 1)
+most_read Restart s y = most_bytes
+most_read End s y = most_legs * most_bytes

@@ -3,7 +3,7 @@ use Rattle.std.specs.Prelude.{◌≡◌, ℕ, ◌*◌, ◌⊎◌, List, [], ◌�
 use Rattle.std.specs.declared.io.Error.{Error}
 use Rattle.device.specs.RegisterFiles.{register_file}
 use Rattle.host.specs.ListHosts.{Listed, list_host}
-use Rattle.law.specs.Laws.{most_ticks_of_turn}
+use Rattle.law.specs.Limits.{most_ticks_of_turn}
 use Rattle.printing.specs.Outputs.{Puts}
 use Rattle.printing.specs.Runs.{setting_out, unheld_lines}
 use Rattle.pairwrite.specs.Inputs.{Reads, FailsToRead}

@@ -1,8 +1,9 @@
--- What is filled as it is made, with 8 items at most; more are refused with 4. Assumes nothing.
+-- What is filled as it is made, with most_items at most; more are refused with 4. Assumes nothing.
 use Rattle.std.specs.Prelude.{ℕ, cond, List, length, None, Ok, Err, Result, nat_le}
 use Rattle.transfer.specs.declared.draft.Transfer.{Transfer}
 use Rattle.transfer.specs.Limits.{most_items}
 use Rattle.host.specs.ListHosts.{Listed}
+use Rattle.transfer.specs.Limits.{most_items}
 
 abbrev pub full_list : List Transfer → Result Listed ℕ
 full_list ts = cond (nat_le (length ts) most_items) (Ok (record { rest = ts; last = None })) (Err 4)

@@ -1,6 +1,6 @@
 // How long turns last.
 ghost use Rattle.std.specs.Prelude.{◌≡◌, ◌*◌};
-ghost use Rattle.law.specs.Laws.{most_ticks_of_turn};
+ghost use Rattle.law.specs.Limits.{most_ticks_of_turn};
 
 // At the slowest clocks a turn ends within so many ticks.
 const TURN: u32 = 160_000;

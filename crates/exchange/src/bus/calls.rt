@@ -6,6 +6,7 @@ ghost use Rattle.law.specs.Banks.{each};
 ghost use Rattle.law.specs.Buses.{made, arm_at, NeverHold, no_holds, tick_at, is_at_rest};
 ghost use Rattle.law.specs.Facts.{StringLaws, ByteLaws};
 ghost use Rattle.law.specs.Laws.{EveryUse};
+ghost use Rattle.law.specs.Limits.{most_masters, most_ports};
 ghost use Rattle.exchange.specs.Calls.{TickedTo};
 ghost use Rattle.exchange.specs.Parts.{bus_model};
 ghost use Rattle.master.specs.Serving.{served_new};
@@ -13,7 +14,7 @@ ghost use Rattle.port.specs.Ports.{port_new};
 
 use super::Bus;
 use crate::bank::{Masters, Ports};
-use law::Tick;
+use law::{MOST_MASTERS, Tick};
 use master::Mark;
 use transfer::Refusal;
 use wire::Wire;
@@ -23,8 +24,8 @@ impl<M: Masters, P: Ports> Bus<M, P> {
     // use of it from here on.
     pub fn new(mut masters: M, mut ports: P) -> Bus<M, P>
         requires some_master { 1 ≤ length M.Masters.hosts }
-        requires few_masters { length M.Masters.hosts ≤ 8 }
-        requires few_ports { length P.Ports.devices ≤ 16 }
+        requires few_masters { length M.Masters.hosts ≤ most_masters }
+        requires few_ports { length P.Ports.devices ≤ most_ports }
         ensures made { bus_model result ≡ made M.Masters.hosts P.Ports.devices (M.Masters.stand masters) (P.Ports.stand ports) }
         ensures law { EveryUse M.Masters.hosts P.Ports.devices (M.Masters.stand masters) (P.Ports.stand ports) }
         ensures strings { StringLaws P.Ports.devices P.Ports.devices }
@@ -59,7 +60,7 @@ impl<M: Masters, P: Ports> Bus<M, P> {
     {
         let levels = self.masters.pulls().or(self.ports.pulls()).levels();
         let signal = self.wire.step(levels);
-        let mut marks = [Mark::Quiet; 8];
+        let mut marks = [Mark::Quiet; MOST_MASTERS];
         self.masters.step(signal, &mut marks);
         self.ports.step(signal);
         Tick {

@@ -5,12 +5,14 @@ ghost use Rattle.law.specs.declared.tick.Tick.{Tick};
 ghost use Rattle.law.specs.Buses.{NeverHold, no_holds, told_at};
 ghost use Rattle.exchange.specs.Calls.{TickedTo, RanTo};
 ghost use Rattle.exchange.specs.Parts.{bus_model, run_model};
+ghost use Rattle.law.specs.Limits.{most_masters, most_ticks};
 ghost use Rattle.law.specs.Runs.{how_many, load, run_at};
 
 use super::{Bus, Run};
 use crate::bank::{Masters, Ports};
 use transfer::Refusal;
 
+// How many ticks a run may be asked for.
 const MOST_TICKS: u32 = 1_000_000;
 
 impl<M: Masters, P: Ports> Bus<M, P> {
@@ -45,7 +47,7 @@ impl<M: Masters, P: Ports> Bus<M, P> {
 
     // One tick, and how many outcomes it told.
     fn outcomes_of_tick(&mut self) -> u32
-        ensures few { result ≤ 8 }
+        ensures few { result ≤ most_masters }
         ensures all { result ≡ how_many (told_at _ _ (bus_model self.old)) }
         ensures after { (t : Tick) × TickedTo self.old t self.new }
     {
@@ -55,7 +57,7 @@ impl<M: Masters, P: Ports> Bus<M, P> {
 
 // In thousandths: twice the numerator plus the ticks, over twice the ticks, rounds a half up.
 fn load(busy: u32, ticks: u32) -> u32
-    requires ticks_bound { ticks ≤ 1000000 }
+    requires ticks_bound { ticks ≤ most_ticks }
     requires busy_le_ticks { busy ≤ ticks }
     ensures { result ≡ load busy ticks }
 {

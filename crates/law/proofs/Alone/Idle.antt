@@ -11,8 +11,9 @@ use Rattle.law.proofs.Sides.{last, QuietFor}
 use Rattle.law.proofs.Alone.Banks.{none_each}
 use Rattle.law.proofs.Alone.CarriedAlone.{carried_alone}
 use Rattle.law.specs.Legal.{Legal}
+use Rattle.law.specs.Limits.{most_letters}
 use Rattle.law.proofs.Alone.PortsSide.{pulling, ports_side, idle_port, idle_ports}
-use Rattle.law.proofs.Alone.SlotsLeft.{slots_left, at_most_308}
+use Rattle.law.proofs.Alone.SlotsLeft.{slots_left, at_most}
 use Rattle.transfer.specs.declared.draft.Transfer.{Transfer}
 use Rattle.law.proofs.Alone.Sealed.{legal_transfer}
 use Rattle.law.proofs.Alone.Statements.{Agrees}
@@ -36,6 +37,6 @@ module _ (ds : List Behaviour) where
     ports_are = ap (λ u. last transfers (ports_side ds) n (opening_of t) ((ports_side ds).begin u)) h.ports_are ∙ (carried_alone ds t h.devices n k b).same_devices;
   }
 
-  -- for a transfer of the code 308 slots are enough
-  pub sealed_alone : (t : Transfer) (d : Bank Placed ds) → Agrees ds (transfer_model t) d 308
-  sealed_alone t d = let h = legal_transfer t in carried_alone ds (transfer_model t) d 308 h (at_most_308 (transfer_model t) h)
+  -- for a transfer of the code the slots of the longest string are enough
+  pub sealed_alone : (t : Transfer) (d : Bank Placed ds) → Agrees ds (transfer_model t) d most_letters
+  sealed_alone t d = let h = legal_transfer t in carried_alone ds (transfer_model t) d most_letters h (at_most (transfer_model t) h)

@@ -1,4 +1,4 @@
--- The laws of strings: one stop, at the end; at most 308 letters; none begins another; the string says the outcome.
+-- The laws of strings: one stop, at the end; at most most_letters letters; none begins another; the string says the outcome.
 use Rattle.std.proofs.Common.{◌≡◌, ℕ, suc, ◌≤◌, Bool, cond, ltb, ◌⊎◌, List, [], ◌∷◌, ◌++◌, map, length, get_or, Some, None, Option, sym, refl, ap, ◌∙◌, inl, inr, append_assoc, le_refl, arith}
 use Rattle.std.proofs.Math.Seq.{get_or-append_seam}
 use lib.ListN.{length-map}
@@ -17,9 +17,10 @@ use Rattle.law.proofs.Sides.{Side, ends, heard, after, string}
 use Rattle.law.proofs.Alone.Alike.{cursor_laws}
 use Rattle.law.proofs.Alone.CarriedAlone.{carried_alone}
 use Rattle.law.specs.Legal.{Legal}
+use Rattle.law.specs.Limits.{most_letters}
 use Rattle.law.specs.Facts.{WithoutStop, OneStop, Parting, IsBit, ZeroAgainstOne, condition, SameConditions, StringLaws}
 use Rattle.law.proofs.Alone.PortsSide.{ports_side}
-use Rattle.law.proofs.Alone.SlotsLeft.{slots_left, at_most_308}
+use Rattle.law.proofs.Alone.SlotsLeft.{slots_left, at_most}
 use Rattle.law.proofs.Alone.Statements.{opened_ports}
 use Rattle.law.proofs.Alone.Told.{Twins, same_end}
 
@@ -137,16 +138,16 @@ module _ (ds : List Behaviour) where
   carried_stop : (t : TransferModel) (d : Bank Placed ds) → OneStop (carried ds t d).letters
   carried_stop t d = let r = passed ds 0 t.first d in one_stop r r.kind t.second
 
-  short : (t : TransferModel) (d : Bank Placed ds) → Legal t → length (carried ds t d).letters ≤ 308
+  short : (t : TransferModel) (d : Bank Placed ds) → Legal t → length (carried ds t d).letters ≤ most_letters
   short t d h = let ts = (carried ds t d).letters in
       let a = carried_alone ds t d (slots_left (opening_of t)) h (le_refl (slots_left (opening_of t))) in
       let e : length (string transfers (ports_side ds) (slots_left (opening_of t)) (opening_of t) (opened_ports ds d)) ≡ length ts = ap length a.same_letters ∙ length-map ts rank in
-      omega (arith, bounded transfers (ports_side ds) (slots_left (opening_of t)) (opening_of t) (opened_ports ds d), at_most_308 t h)
+      omega (arith, bounded transfers (ports_side ds) (slots_left (opening_of t)) (opening_of t) (opened_ports ds d), at_most t h)
 
 pub string_laws : (ds es : List Behaviour) → StringLaws ds es
 string_laws ds es = record {
   one_stop = carried_stop ds;
-  at_most_308 = short ds;
+  at_most = short ds;
   none_begins = λ t u d e ts q. let a = carried_stop ds t d in let b = carried_stop es u e in
       none_begins a.front b.front ts a.no_other b.no_other (sym (ap (λ r. r ++ ts) a.front_stop) ∙ q ∙ b.front_stop);
   same_outcome = λ t u d e h k q.

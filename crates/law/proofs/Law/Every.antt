@@ -7,6 +7,8 @@ use Rattle.master.specs.declared.arming.Arming.{Arming}
 use Rattle.master.specs.Armings.{armed_by}
 use Rattle.master.specs.Masters.{MasterModel, rises, new_master}
 use Rattle.master.specs.Scripts.{Script}
+use Rattle.transfer.specs.Limits.{most_count}
+use Rattle.law.specs.Limits.{ticks_of_turn}
 use Rattle.law.proofs.Sides.{Side}
 use Rattle.law.proofs.Law.Machine.{Bus, tick, tick_event, tick_verdicts}
 use Rattle.law.proofs.Law.Phases.{early_lost, Cell, out, looks, idling, claimed, opened, lowered, released, fresh, settled, Timed, bus, claimed_bus, opened_bus, low_bus, fresh_bus, settled_bus}
@@ -85,7 +87,7 @@ module _ (W : Script) (D : Side) (left : W.Cursor → ℕ) (Alike : W.Cursor →
   stands_out _ _ _ _ _ _ (rose u os s0 l v sp cs k r s b n e j c m g q y) h i z = outs u (fresh_bus W D b cs s) (early_lost b) (fresh W b) (λ m p. rise_out W (released W m p) p (W.symbol p) b) l cs v i e refl m.0 z
   stands_out _ _ _ _ _ _ (high u os s0 l v sp cs k r s d c f n e j o z m g q y) h i x = outs u (settled_bus W D d c cs s f) never (settled W f) (never_out W (settled W f)) l cs v i e refl m.0 x
 
-  stands_left : (u : Bus W D) (os : Tasks W) (s : D.S) (t : Option (Tasks W)) (w : Watch) (n : ℕ) → Stands W D left Alike Fits Rest u os s t w n → n ≤ 159999
+  stands_left : (u : Bus W D) (os : Tasks W) (s : D.S) (t : Option (Tasks W)) (w : Watch) (n : ℕ) → Stands W D left Alike Fits Rest u os s t w n → n ≤ ticks_of_turn
   stands_left u os s t w n h = grind arith
 
 -- the making
@@ -133,7 +135,7 @@ module _ (W : Script) (D : Side) (left : W.Cursor → ℕ) (H : Hosts W) (Alike 
     wanted : Wanted (H.wants x.book.hosts) x.book.armed
     arms : x.arms ≡ x.told + count x.book.armed
 
-  made_kept : (cs : List (ℕ × ℕ)) (a : H.State) (s : D.S) → Clocks cs → Rest s → Kept (made W D H cs a s) 159999
+  made_kept : (cs : List (ℕ × ℕ)) (a : H.State) (s : D.S) → Clocks cs → Rest s → Kept (made W D H cs a s) ticks_of_turn
   made_kept cs a s c q = record {
     stands = idle (made W D H cs a s).bus (armeds W (fresh_masters W cs)) s (watch 0 false [] (spell None [])) (made_cells W cs) (ap (λ ms. bus W D true true false ms s None 0) (made_looks W cs))
         (made_armeds W cs) (made_timed W cs c) (made_holding W cs) q (λ j t e. nobody_armed j t e);
@@ -177,7 +179,7 @@ module _ (W : Script) (D : Side) (left : W.Cursor → ℕ) (H : Hosts W) (Alike 
   wanted_fed b SteadyHigh h = h
   wanted_fed b SteadyLow h = h
 
-  fine : (x : Use W D H) (n h : ℕ) → h ≤ 255 → Kept W D left H Alike Fits Rest x n →
+  fine : (x : Use W D H) (n h : ℕ) → h ≤ most_count → Kept W D left H Alike Fits Rest x n →
       Fine W D left H Alike Fits Rest laws plays x.book.hosts x.book.armed x.book.side x.book.turn x.watch n (tick W D x.bus h) (tick_event W D x.bus) (tick_verdicts W D x.bus)
   fine x n h b k = tick_stands W D left H Alike Fits Rest laws plays x.book.hosts x.bus x.book.armed x.book.side x.book.turn x.watch n h b k.stands
 
@@ -194,7 +196,7 @@ module _ (W : Script) (D : Side) (left : W.Cursor → ℕ) (H : Hosts W) (Alike 
     arms = let a = ap accepted (answers_as x n i k) in let b = count_arm x.book.armed (H.wants x.book.hosts) i in let c = k.arms in omega arith;
   }
 
-  keeps_tick : (x : Use W D H) (n h : ℕ) (b : h ≤ 255) (k : Kept W D left H Alike Fits Rest x n) → Kept W D left H Alike Fits Rest (does W D left H x (ticks h)) (fine x n h b k).due
+  keeps_tick : (x : Use W D H) (n h : ℕ) (b : h ≤ most_count) (k : Kept W D left H Alike Fits Rest x n) → Kept W D left H Alike Fits Rest (does W D left H x (ticks h)) (fine x n h b k).due
   keeps_tick x n h b k = let f = fine x n h b k in record {
     stands = f.stands;
     hosts = ap₂ H.hear k.hosts f.tells ∙ hears x.book (tick_event W D x.bus);
@@ -245,10 +247,10 @@ module _ (W : Script) (D : Side) (left : W.Cursor → ℕ) (H : Hosts W) (Alike 
   -- the law, at every point of every use from the making
   pub every_use : (cs : List (ℕ × ℕ)) (a : H.State) (s : D.S) → Clocks cs → Rest s → EveryUse W D left H (made W D H cs a s)
   every_use cs a s c q us h =
-      let k = keeps us h (made W D H cs a s) 159999 (made_kept W D left H Alike Fits Rest cs a s c q) in
+      let k = keeps us h (made W D H cs a s) ticks_of_turn (made_kept W D left H Alike Fits Rest cs a s c q) in
       law_at (uses W D left H (made W D H cs a s) us) k.0 k.1
 
   -- the invariant there
   pub every_stands : (cs : List (ℕ × ℕ)) (a : H.State) (s : D.S) → Clocks cs → Rest s → (us : List Step) → Held us → let x = uses W D left H (made W D H cs a s) us in
       (n : ℕ) × Stands W D left Alike Fits Rest x.bus x.book.armed x.book.side x.book.turn x.watch n
-  every_stands cs a s c q us h = let k = keeps us h (made W D H cs a s) 159999 (made_kept W D left H Alike Fits Rest cs a s c q) in (k.0, k.1.stands)
+  every_stands cs a s c q us h = let k = keeps us h (made W D H cs a s) ticks_of_turn (made_kept W D left H Alike Fits Rest cs a s c q) in (k.0, k.1.stands)

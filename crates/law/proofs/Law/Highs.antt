@@ -4,6 +4,7 @@ use Rattle.std.proofs.lemmas.Bool.Decides.{nat_tests}
 use Rattle.wire.specs.declared.wire.Event.TheVariants.{Fall, SteadyHigh}
 use Rattle.master.specs.Masters.{MasterModel, master_step}
 use Rattle.master.specs.Scripts.{Script}
+use Rattle.transfer.specs.Limits.{most_count}
 use Rattle.law.proofs.Sides.{Side}
 use Rattle.law.proofs.Law.Machine.{any_scl, any_sda, masters_step, asked, taken, levels, tick}
 use Rattle.law.proofs.Law.Phases.{lines, shown, holds, Cell, out, live, look, looks, opened, lowered, settled, some, alive, Times, Timed, goes_on, advance, bus, opened_bus, low_bus, settled_bus}
@@ -22,13 +23,15 @@ module _ (W : Script) where
   settled_fall : (k : Option Bool) (m : MasterModel W) (p : W.Cursor) (e : ℕ) → Times W m → (master_step W (settled W e m p) (shown Fall k false)).0 ≡ look W (lowered W 0) (goes_on W (unwrap_or k true) m p)
   settled_fall k m p e t = grind (arith, nat_tests)
 
-  -- after 255 ticks somebody pulls SCL
-  pub opened_ends : (cs : List (Cell W)) (e : ℕ) → Timed W cs → alive W cs ≡ true → 255 ≤ e → any_scl W (looks W (opened W e) cs) ≡ true
+  -- most_count ticks on somebody pulls SCL
+  pub opened_ends : (cs : List (Cell W)) (e : ℕ) → Timed W cs → alive W cs ≡ true → most_count ≤ e →
+      any_scl W (looks W (opened W e) cs) ≡ true
   opened_ends [] e t a h = cc
   opened_ends (out m ∷ cs) e t a h = opened_ends cs e t.1 a h
   opened_ends (live m p ∷ cs) e t a h = let k = t.0.high_to in grind (arith, nat_tests)
 
-  pub settled_ends : (cs : List (Cell W)) (e : ℕ) → Timed W cs → alive W cs ≡ true → 255 ≤ e → any_scl W (looks W (settled W e) cs) ≡ true
+  pub settled_ends : (cs : List (Cell W)) (e : ℕ) → Timed W cs → alive W cs ≡ true → most_count ≤ e →
+      any_scl W (looks W (settled W e) cs) ≡ true
   settled_ends [] e t a h = cc
   settled_ends (out m ∷ cs) e t a h = settled_ends cs e t.1 a h
   settled_ends (live m p ∷ cs) e t a h = let k = t.0.high_to in grind (arith, nat_tests)

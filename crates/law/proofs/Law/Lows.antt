@@ -5,6 +5,7 @@ use Rattle.wire.specs.declared.wire.Event.TheVariants.{Rise, SteadyLow}
 use Rattle.master.specs.Masters.{MasterModel, master_step}
 use Rattle.master.specs.Scripts.{Script}
 use Rattle.master.specs.Symbols.{pulls_sda}
+use Rattle.transfer.specs.Limits.{most_count}
 use Rattle.law.proofs.Sides.{Side}
 use Rattle.law.proofs.Law.Machine.{any_scl, any_sda, masters_step, levels, tick}
 use Rattle.law.proofs.Law.Phases.{lines, shown, Cell, out, live, off, looks, lowered, released, fresh, some, Timed, carries, held, bus, low_bus, fresh_bus}
@@ -37,8 +38,8 @@ module _ (W : Script) where
   rising [] b = refl
   rising (c ∷ cs) b = grind (arith, rising cs)
 
-  -- nobody pulls for 255 ticks
-  pub low_ends : (cs : List (Cell W)) (e : ℕ) → Timed W cs → 255 ≤ e → any_scl W (looks W (lowered W e) cs) ≡ false
+  -- most_count ticks on nobody pulls
+  pub low_ends : (cs : List (Cell W)) (e : ℕ) → Timed W cs → most_count ≤ e → any_scl W (looks W (lowered W e) cs) ≡ false
   low_ends [] e t h = refl
   low_ends (out m ∷ cs) e t h = low_ends cs e t.1 h
   low_ends (live m p ∷ cs) e t h =

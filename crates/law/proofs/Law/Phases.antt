@@ -10,6 +10,7 @@ use Rattle.wire.specs.declared.wire.Signal.{Signal}
 use Rattle.master.specs.Masters.{MasterModel, waiting, opening, showing, VerdictModel, quiet, lost, told, to, rises, new_master}
 use Rattle.master.specs.Scripts.{Script}
 use Rattle.master.specs.Symbols.{pulls_sda}
+use Rattle.transfer.specs.Limits.{most_count}
 use Rattle.law.proofs.Sides.{Side}
 use Rattle.law.proofs.Law.Machine.{Bus, any_scl}
 
@@ -158,9 +159,9 @@ module _ (W : Script) where
 
   pub record Times (m : MasterModel W) : Type 0 where
     pub low_from : 1 ≤ m.low
-    pub low_to : m.low ≤ 255
+    pub low_to : m.low ≤ most_count
     pub high_from : 1 ≤ m.high
-    pub high_to : m.high ≤ 255
+    pub high_to : m.high ≤ most_count
 
   abbrev pub who : Cell → MasterModel W
   who (out m) = m

@@ -7,6 +7,7 @@ use Rattle.master.specs.declared.symbol.Symbol.TheVariants.{Listen, Stop}
 use Rattle.master.specs.Masters.{MasterModel}
 use Rattle.master.specs.Scripts.{Script}
 use Rattle.master.specs.Symbols.{pulls_sda}
+use Rattle.law.specs.Limits.{most_letters}
 use Rattle.law.proofs.Sides.{Side, ends, letter, heard, after}
 use Rattle.law.proofs.Law.Phases.{rank, Cell, out, live, turn, cursor, cursors, some, alive, Every, least, stay_if, stay, advance, carries, Shape}
 use Rattle.law.proofs.Law.Race.{at, lead, keep_all, Joint, slot, slots, opened, Quiet, Laws}
@@ -98,7 +99,7 @@ module _ (W : Script) (D : Side) (left : W.Cursor → ℕ) (Alike : W.Cursor →
     pub fair : Fair W left Alike r ps
     pub quiet : (i : ℕ) (p : W.Cursor) → at ps i ≡ Some p → Quiet W D p s
     pub paired : Paired W Alike l
-    pub sums : r + k ≡ 308
+    pub sums : r + k ≡ most_letters
 
 module _ (W : Script) (D : Side) (left : W.Cursor → ℕ) (Alike : W.Cursor → W.Cursor → Type 0) where
   pub spells : (l : List (Option W.Cursor)) (s0 : D.S) (k r : ℕ) (ps : List (Option W.Cursor)) (s : D.S) (c : ℕ) → Run W D left Alike l s0 k r ps s → letter D (lead W ps) s ≡ c →

@@ -3,6 +3,8 @@ use Rattle.std.proofs.Common.{◌≡◌, ℕ, zero, suc, ◌+◌, ◌-◌, ◌*�
 use Rattle.master.specs.Masters.{MasterModel}
 use Rattle.master.specs.Scripts.{Script}
 use Rattle.master.specs.Symbols.{pulls_sda}
+use Rattle.transfer.specs.Limits.{most_count}
+use Rattle.law.specs.Limits.{most_letters, ticks_of_low, ticks_of_letter, ticks_of_turn}
 use Rattle.law.proofs.Sides.{Side}
 use Rattle.law.proofs.Law.Machine.{taken, Bus}
 use Rattle.law.proofs.Law.Phases.{holds, early_lost, Cell, looks, cursors, idling, claimed, opened, lowered, fresh, settled, some, alive, Timed, advance, bus, free_bus, claimed_bus, opened_bus, low_bus, fresh_bus, settled_bus, carries}
@@ -43,26 +45,29 @@ module _ (W : Script) (D : Side) (left : W.Cursor → ℕ) (Alike : W.Cursor →
   pub data Stands : Bus W D → Tasks W → D.S → Option (Tasks W) → Watch → ℕ → Type 0 where
     idle : (u : Bus W D) (os : Tasks W) (s : D.S) (w : Watch) (cs : List (Cell W)) →
         u ≡ free_bus W D cs s → os ≡ cell_armeds W cs → Timed W cs → Holding W cs → Rest s → Ready Fits os →
-        Stands u os s None w 159999
+        Stands u os s None w ticks_of_turn
     claims : (u : Bus W D) (os : Tasks W) (s : D.S) (l : Tasks W) (v : List Bool) (sp : Spell) (cs : List (Cell W)) →
-        u ≡ claimed_bus W D cs s → (v ≡ marked W never l cs) × (sp ≡ spell None []) → Crew W l os cs → Run W D left Alike (begins W l) (D.begin s) 0 308 (cursors W cs) (D.begin s) → Fit W D Fits Rest os l s →
-        Stands u os s (Some l) (watch 0 false v sp) 158262
+        u ≡ claimed_bus W D cs s → (v ≡ marked W never l cs) × (sp ≡ spell None []) → Crew W l os cs → Run W D left Alike (begins W l) (D.begin s) 0 most_letters (cursors W cs) (D.begin s) → Fit W D Fits Rest os l s →
+        Stands u os s (Some l) (watch 0 false v sp) (ticks_of_turn - 1)
+    -- of the opening the two ticks of the claim and of the start are gone, and e of the high
     begun : (u : Bus W D) (os : Tasks W) (s : D.S) (l : Tasks W) (v : List Bool) (sp : Spell) (cs : List (Cell W)) (e n : ℕ) →
-        u ≡ opened_bus W D cs (D.begin s) e → e ≤ 255 → n + e ≡ 158261 →
-        (v ≡ marked W never l cs) × (sp ≡ spell None []) → Crew W l os cs → Run W D left Alike (begins W l) (D.begin s) 0 308 (cursors W cs) (D.begin s) → Fit W D Fits Rest os l s →
+        u ≡ opened_bus W D cs (D.begin s) e → e ≤ most_count → n + 2 + e ≡ ticks_of_turn →
+        (v ≡ marked W never l cs) × (sp ≡ spell None []) → Crew W l os cs → Run W D left Alike (begins W l) (D.begin s) 0 most_letters (cursors W cs) (D.begin s) → Fit W D Fits Rest os l s →
         Stands u os s (Some l) (watch 0 false v sp) n
+    -- r letters are left at the most, this one among them, and e ticks of its low are gone
     low : (u : Bus W D) (os : Tasks W) (s0 : D.S) (l : Tasks W) (v : List Bool) (sp : Spell) (cs : List (Cell W)) (k r : ℕ) (s : D.S) (d : Bool) (h e n : ℕ) →
-        u ≡ low_bus W D d cs s h e → h ≤ 255 → e ≤ 255 → n + e ≡ 513 * r →
+        u ≡ low_bus W D d cs s h e → h ≤ most_count → e ≤ most_count → n + e ≡ ticks_of_letter * r →
         (v ≡ marked W never l cs) × (sp ≡ spell None (spelled W D (begins W l) (D.begin s0) k)) → Crew W l os cs → Run W D left Alike (begins W l) (D.begin s0) k r (cursors W cs) s → Fit W D Fits Rest os l s0 →
         Stands u os s0 (Some l) (watch (suc k) false v sp) n
     rose : (u : Bus W D) (os : Tasks W) (s0 : D.S) (l : Tasks W) (v : List Bool) (sp : Spell) (cs : List (Cell W)) (k r : ℕ) (s : D.S) (b : Bool) (n : ℕ) →
-        u ≡ fresh_bus W D b cs s → carries W D cs s ≡ b → n + 256 ≡ 513 * r →
+        u ≡ fresh_bus W D b cs s → carries W D cs s ≡ b → n + ticks_of_low ≡ ticks_of_letter * r →
         (v ≡ marked W (early_lost b) l cs) × (sp ≡ spell (Some b) (spelled W D (begins W l) (D.begin s0) k)) → Crew W l os cs → Run W D left Alike (begins W l) (D.begin s0) k r (cursors W cs) s →
         Fit W D Fits Rest os l s0 →
         Stands u os s0 (Some l) (watch (suc k) true v sp) n
-    -- c: the bit that counts at the next fall; after a repeated start none does
+    -- c: the bit that counts at the next fall; after a repeated start none does. The tick after the rise is gone, and e of the high
     high : (u : Bus W D) (os : Tasks W) (s0 : D.S) (l : Tasks W) (v : List Bool) (sp : Spell) (cs : List (Cell W)) (k r : ℕ) (s : D.S) (d : Bool) (c : Option Bool) (e n : ℕ) →
-        u ≡ settled_bus W D d c cs s e → not (some W holds cs || D.pulls s) ≡ d → e ≤ 255 → n + 257 + e ≡ 513 * suc r →
+        u ≡ settled_bus W D d c cs s e → not (some W holds cs || D.pulls s) ≡ d → e ≤ most_count →
+        n + ticks_of_low + 1 + e ≡ ticks_of_letter * suc r →
         (v ≡ marked W never l cs) × (fallen sp.latched sp.letters ≡ spell None (spelled W D (begins W l) (D.begin s0) (suc k))) × Spelt W D (begins W l) (D.begin s0) (suc k) sp s → Crew W l os cs →
         Run W D left Alike (begins W l) (D.begin s0) (suc k) r (cursors W (advance W (unwrap_or c true) cs)) (taken D c s) → Fit W D Fits Rest os l s0 →
         Stands u os s0 (Some l) (watch (suc k) true v sp) n
@@ -116,11 +121,11 @@ module _ (W : Script) (D : Side) (left : W.Cursor → ℕ) (Alike : W.Cursor →
   arm_stands _ _ _ _ _ _ (claims u os s l v sp cs e m g q y) =
       claims (arm_bus W D u ws i) (arm_book os ws i) s l v sp (arm_cells W cs ws i)
       (arm_phase W D true true false (claimed W) (λ m p. refl) cs s None 0 u ws i g.holding e) (m.0 ∙ arm_marked W never l cs ws i, m.1) (arm_crew W l os cs ws i g)
-      (arm_run (begins W l) (D.begin s) 0 308 cs (D.begin s) q) (arm_fit os l s y)
+      (arm_run (begins W l) (D.begin s) 0 most_letters cs (D.begin s) q) (arm_fit os l s y)
   arm_stands _ _ _ _ _ _ (begun u os s l v sp cs k n e b c m g q y) =
       begun (arm_bus W D u ws i) (arm_book os ws i) s l v sp (arm_cells W cs ws i) k n
       (arm_phase W D true false true (opened W k) (λ m p. refl) cs (D.begin s) None 0 u ws i g.holding e) b c (m.0 ∙ arm_marked W never l cs ws i, m.1) (arm_crew W l os cs ws i g)
-      (arm_run (begins W l) (D.begin s) 0 308 cs (D.begin s) q) (arm_fit os l s y)
+      (arm_run (begins W l) (D.begin s) 0 most_letters cs (D.begin s) q) (arm_fit os l s y)
   arm_stands _ _ _ _ _ _ (low u os s0 l v sp cs k r s d h f n e b b' c m g q y) =
       low (arm_bus W D u ws i) (arm_book os ws i) s0 l v sp (arm_cells W cs ws i) k r s d h f n
       (arm_phase W D false d true (lowered W f) (λ m p. refl) cs s None (h - f) u ws i g.holding e) b b' c (m.0 ∙ arm_marked W never l cs ws i, m.1) (arm_crew W l os cs ws i g)

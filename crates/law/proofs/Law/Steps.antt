@@ -9,6 +9,8 @@ use Rattle.wire.specs.declared.wire.Event.TheVariants.{Rise, Fall, Start, Stop, 
 use Rattle.master.specs.Masters.{VerdictModel, quiet, lost, told}
 use Rattle.master.specs.Scripts.{Script}
 use Rattle.wire.specs.Wires.{event, counted}
+use Rattle.transfer.specs.Limits.{most_count}
+use Rattle.law.specs.Limits.{most_letters, ticks_of_low, ticks_of_letter, ticks_of_turn}
 use Rattle.law.proofs.Sides.{Side, heard}
 use Rattle.law.proofs.Law.Machine.{any_scl, verdicts, asked, taken, Bus, tick, tick_event, said, tick_verdicts}
 use Rattle.law.proofs.Law.Phases.{lines, shown, rank, holds, early_lost, late_lost, Cell, looks, notes, no_verdict, early, late, cursors, opened, settled, some, Every, Timed, least, stay, advance, finished, claim_all, free_bus, claimed_bus, opened_bus, low_bus, fresh_bus, settled_bus, carries, held, Shape}
@@ -28,7 +30,7 @@ use Rattle.law.proofs.Law.Contests.{task_at, leader_in, loses_at, wins_least, le
 use Rattle.law.proofs.Law.Stands.{Ready, Crew, Fit, Spelt, Stands, idle, claims, begun, low, rose, high}
 use Rattle.law.proofs.Law.Stops.{ending, tells_end, armeds_finished, counts_end, somebody_told, disarmed, tells_unmarked, outcome_at, told_at_stop}
 
-asked_to : (k : Option Bool) (h : ℕ) → h ≤ 255 → asked k h ≤ 255
+asked_to : (k : Option Bool) (h : ℕ) → h ≤ most_count → asked k h ≤ most_count
 asked_to None h b = omega arith
 asked_to (Some c) h b = b
 
@@ -191,7 +193,7 @@ module _ (W : Script) (D : Side) (left : W.Cursor → ℕ) (H : Hosts W) (Alike 
       (tells_none W (no_verdict W) (λ x p. refl) cs ∙ ap nobody (sym a))
       (no_loses t s w.marked (turned W w os t e) cs) fs st))
 
-  first_run : (os : Tasks W) (s : D.S) → Rest s → Ready Fits os → Run W D left Alike (begins W os) (D.begin s) 0 308 (begins W os) (D.begin s)
+  first_run : (os : Tasks W) (s : D.S) → Rest s → Ready Fits os → Run W D left Alike (begins W os) (D.begin s) 0 most_letters (begins W os) (D.begin s)
   first_run os s q y = record {
     runs = refl;
     fair = record { small = small; alike = alike };
@@ -200,8 +202,8 @@ module _ (W : Script) (D : Side) (left : W.Cursor → ℕ) (H : Hosts W) (Alike 
     sums = omega arith;
   }
     where
-      small : (i : ℕ) (p : W.Cursor) → at (begins W os) i ≡ Some p → left p ≤ 308
-      small i p e = let t = task_at W os i p e in subst (λ x. left x ≤ 308) t.2 (plays.short t.0 (y i t.0 t.1))
+      small : (i : ℕ) (p : W.Cursor) → at (begins W os) i ≡ Some p → left p ≤ most_letters
+      small i p e = let t = task_at W os i p e in subst (λ x. left x ≤ most_letters) t.2 (plays.short t.0 (y i t.0 t.1))
 
       alike : (i k : ℕ) (p r : W.Cursor) → at (begins W os) i ≡ Some p → at (begins W os) k ≡ Some r → Alike p r
       alike i k p r e d =
@@ -212,15 +214,15 @@ module _ (W : Script) (D : Side) (left : W.Cursor → ℕ) (H : Hosts W) (Alike 
       silent_side : (i : ℕ) (p : W.Cursor) → at (begins W os) i ≡ Some p → Quiet W D p (D.begin s)
       silent_side i p e = let t = task_at W os i p e in subst (λ x. Quiet W D x (D.begin s)) t.2 (plays.quiet t.0 s (y i t.0 t.1) q)
 
-  tick_idle : (hs : H.State) (os : Tasks W) (s : D.S) (w : Watch) (cs : List (Cell W)) (h : ℕ) → os ≡ cell_armeds W cs → Timed W cs → Holding W cs → Rest s → Ready Fits os → Real hs (free_bus W D cs s) os s None w 159999 h
+  tick_idle : (hs : H.State) (os : Tasks W) (s : D.S) (w : Watch) (cs : List (Cell W)) (h : ℕ) → os ≡ cell_armeds W cs → Timed W cs → Holding W cs → Rest s → Ready Fits os → Real hs (free_bus W D cs s) os s None w ticks_of_turn h
   tick_idle hs os s w cs h a t g q y = go (any os) refl
     where
       goes : tick W D (free_bus W D cs s) h ≡ claimed_bus W D (claim_all W cs) s
       goes = free_claims W D cs s h (plays.calm s q)
 
-      go : (v : Bool) → any os ≡ v → Real hs (free_bus W D cs s) os s None w 159999 h
+      go : (v : Bool) → any os ≡ v → Real hs (free_bus W D cs s) os s None w ticks_of_turn h
       go true v =
-          plain hs (free_bus W D cs s) cs os s None (Some os) w (watch 0 false (falses os) (spell None [])) 159999 158262 h (claimed_bus W D (claim_all W cs) s) SteadyHigh a goes refl (idle_quiet W cs)
+          plain hs (free_bus W D cs s) cs os s None (Some os) w (watch 0 false (falses os) (spell None [])) ticks_of_turn (ticks_of_turn - 1) h (claimed_bus W D (claim_all W cs) s) SteadyHigh a goes refl (idle_quiet W cs)
           (ap (λ z. book W D H hs os s (cond z (Some os) None)) v) refl high_no
           (ap (λ z. noted W (cond z (watch 0 false (falses os) (spell None [])) w) (notes W (no_verdict W) cs)) v ∙ ap (λ x. watch 0 false x (spell None [])) (marks_none W (falses os) cs))
           (inl (omega arith))
@@ -234,9 +236,9 @@ module _ (W : Script) (D : Side) (left : W.Cursor → ℕ) (H : Hosts W) (Alike 
             holding = holding_claim W cs;
             within = subst (λ l. Within W l (claim_all W cs)) (sym a) (within_claim W cs);
           })
-          (subst (λ ps. Run W D left Alike (begins W os) (D.begin s) 0 308 ps (D.begin s)) (ap (begins W) a ∙ sym (cursors_claim W cs)) (first_run os s q y)) (record { armed = y; turn = y; rest = q }))
+          (subst (λ ps. Run W D left Alike (begins W os) (D.begin s) 0 most_letters ps (D.begin s)) (ap (begins W) a ∙ sym (cursors_claim W cs)) (first_run os s q y)) (record { armed = y; turn = y; rest = q }))
       go false v =
-          plain hs (free_bus W D cs s) cs os s None None w (noted W w (notes W (no_verdict W) cs)) 159999 159999 h (free_bus W D (claim_all W cs) s) SteadyHigh a
+          plain hs (free_bus W D cs s) cs os s None None w (noted W w (notes W (no_verdict W) cs)) ticks_of_turn ticks_of_turn h (free_bus W D (claim_all W cs) s) SteadyHigh a
           (goes ∙ free_stays W D (claim_all W cs) s (alive_claim W cs ∙ ap any (sym a) ∙ v)) refl (idle_quiet W cs)
           (ap (λ z. book W D H hs os s (cond z (Some os) None)) v) refl high_no
           (ap (λ z. noted W (cond z (watch 0 false (falses os) (spell None [])) w) (notes W (no_verdict W) cs)) v)
@@ -244,28 +246,31 @@ module _ (W : Script) (D : Side) (left : W.Cursor → ℕ) (H : Hosts W) (Alike 
           (idle (free_bus W D (claim_all W cs) s) os s (noted W w (notes W (no_verdict W) cs)) (claim_all W cs) refl (a ∙ sym (armeds_claim W cs)) (timed_claim W cs t) (holding_claim W cs) q y)
 
   tick_claims : (hs : H.State) (os : Tasks W) (s : D.S) (l : Tasks W) (v : List Bool) (sp : Spell) (cs : List (Cell W)) (h : ℕ) → (v ≡ marked W never l cs) × (sp ≡ spell None []) → Crew W l os cs →
-      Run W D left Alike (begins W l) (D.begin s) 0 308 (cursors W cs) (D.begin s) → Fit W D Fits Rest os l s → Real hs (claimed_bus W D cs s) os s (Some l) (watch 0 false v sp) 158262 h
+      Run W D left Alike (begins W l) (D.begin s) 0 most_letters (cursors W cs) (D.begin s) → Fit W D Fits Rest os l s → Real hs (claimed_bus W D cs s) os s (Some l) (watch 0 false v sp) (ticks_of_turn - 1) h
   tick_claims hs os s l v sp cs h m g r y =
-      plain hs (claimed_bus W D cs s) cs os s (Some l) (Some l) (watch 0 false v sp) (watch 0 false v sp) 158262 158261 h (opened_bus W D cs (D.begin s) 0) Start g.armed
+      plain hs (claimed_bus W D cs s) cs os s (Some l) (Some l) (watch 0 false v sp) (watch 0 false v sp) (ticks_of_turn - 1) (ticks_of_turn - 2) h (opened_bus W D cs (D.begin s) 0) Start g.armed
       (claimed_starts W D cs s h g.timed g.living) refl (claimed_quiet W cs) refl refl start_no (ap (λ x. watch 0 false x sp) (marks_none W v cs)) (inl (omega arith))
-      (begun (opened_bus W D cs (D.begin s) 0) os s l v sp cs 0 158261 refl (omega arith) (omega arith) m g r y)
+      (begun (opened_bus W D cs (D.begin s) 0) os s l v sp cs 0 (ticks_of_turn - 2) refl (omega arith) (omega arith) m g r y)
 
-  tick_begun : (hs : H.State) (os : Tasks W) (s : D.S) (l : Tasks W) (v : List Bool) (sp : Spell) (cs : List (Cell W)) (e n h : ℕ) → e ≤ 255 → n + e ≡ 158261 →
+  tick_begun : (hs : H.State) (os : Tasks W) (s : D.S) (l : Tasks W) (v : List Bool) (sp : Spell) (cs : List (Cell W)) (e n h : ℕ) → e ≤ most_count → n + 2 + e ≡ ticks_of_turn →
       (v ≡ marked W never l cs) × (sp ≡ spell None []) → Crew W l os cs →
-      Run W D left Alike (begins W l) (D.begin s) 0 308 (cursors W cs) (D.begin s) → Fit W D Fits Rest os l s → Real hs (opened_bus W D cs (D.begin s) e) os s (Some l) (watch 0 false v sp) n h
+      Run W D left Alike (begins W l) (D.begin s) 0 most_letters (cursors W cs) (D.begin s) → Fit W D Fits Rest os l s → Real hs (opened_bus W D cs (D.begin s) e) os s (Some l) (watch 0 false v sp) n h
   tick_begun hs os s l v sp cs e n h b c m g r y = go (any_scl W (looks W (opened W e) cs)) refl
     where
       go : (x : Bool) → any_scl W (looks W (opened W e) cs) ≡ x → Real hs (opened_bus W D cs (D.begin s) e) os s (Some l) (watch 0 false v sp) n h
       go false x =
-          let k : e < 255 = elim (cases_lt e 255) [ inl z ↦ z | inr z ↦ let y = opened_ends W cs e g.timed g.living z in cc ] in
+          let k : e < most_count = elim (cases_lt e most_count) [
+            | inl z ↦ z
+            | inr z ↦ let y = opened_ends W cs e g.timed g.living z in cc
+          ] in
           plain hs (opened_bus W D cs (D.begin s) e) cs os s (Some l) (Some l) (watch 0 false v sp) (watch 0 false v sp) n (n - 1) h (opened_bus W D cs (D.begin s) (e + 1)) SteadyHigh g.armed
           (opened_stays W D cs (D.begin s) e h g.timed g.living x) refl (opened_quiet W e cs) refl refl high_no (ap (λ x. watch 0 false x sp) (marks_none W v cs)) (inl (omega arith))
           (begun (opened_bus W D cs (D.begin s) (e + 1)) os s l v sp cs (e + 1) (n - 1) refl (omega arith) (omega arith) m g r y)
       go true x =
-          plain hs (opened_bus W D cs (D.begin s) e) cs os s (Some l) (Some l) (watch 0 false v sp) (watch 1 false v (fallen sp.latched sp.letters)) n 158004 h (low_bus W D false cs (D.begin s) 0 0) Fall g.armed
+          plain hs (opened_bus W D cs (D.begin s) e) cs os s (Some l) (Some l) (watch 0 false v sp) (watch 1 false v (fallen sp.latched sp.letters)) n (ticks_of_letter * most_letters) h (low_bus W D false cs (D.begin s) 0 0) Fall g.armed
           (opened_falls W D cs (D.begin s) e h g.timed g.living x) refl (opened_fall_quiet W e cs) refl refl fall_no
           (ap (λ x. watch 1 false x (fallen sp.latched sp.letters)) (marks_none W v cs)) (inl (omega arith))
-          (low (low_bus W D false cs (D.begin s) 0 0) os s l v (fallen sp.latched sp.letters) cs 0 308 (D.begin s) false 0 0 158004 refl (omega arith) (omega arith) (omega arith)
+          (low (low_bus W D false cs (D.begin s) 0 0) os s l v (fallen sp.latched sp.letters) cs 0 most_letters (D.begin s) false 0 0 (ticks_of_letter * most_letters) refl (omega arith) (omega arith) (omega arith)
           (m.0, ap (λ x. fallen x.latched x.letters) m.1) g r y)
 
   -- a mark in the slot k
@@ -293,7 +298,7 @@ module _ (W : Script) (D : Side) (left : W.Cursor → ℕ) (H : Hosts W) (Alike 
         first = x.2;
       }
 
-  tick_low : (hs : H.State) (os : Tasks W) (s0 : D.S) (l : Tasks W) (v : List Bool) (sp : Spell) (cs : List (Cell W)) (k r : ℕ) (s : D.S) (d : Bool) (f e n h : ℕ) → f ≤ 255 → e ≤ 255 → n + e ≡ 513 * r →
+  tick_low : (hs : H.State) (os : Tasks W) (s0 : D.S) (l : Tasks W) (v : List Bool) (sp : Spell) (cs : List (Cell W)) (k r : ℕ) (s : D.S) (d : Bool) (f e n h : ℕ) → f ≤ most_count → e ≤ most_count → n + e ≡ ticks_of_letter * r →
       (v ≡ marked W never l cs) × (sp ≡ spell None (spelled W D (begins W l) (D.begin s0) k)) → Crew W l os cs → Run W D left Alike (begins W l) (D.begin s0) k r (cursors W cs) s →
       Fit W D Fits Rest os l s0 → Real hs (low_bus W D d cs s f e) os s0 (Some l) (watch (suc k) false v sp) n h
   tick_low hs os s0 l v sp cs k r s d f e n h b b' c m g run y = go (held W D cs f e) refl
@@ -304,7 +309,10 @@ module _ (W : Script) (D : Side) (left : W.Cursor → ℕ) (H : Hosts W) (Alike 
       go : (x : Bool) → held W D cs f e ≡ x → Real hs (low_bus W D d cs s f e) os s0 (Some l) (watch (suc k) false v sp) n h
       go true x =
           let z = some_r in
-          let k' : e < 255 = elim (cases_lt e 255) [ inl z ↦ z | inr z ↦ let q = low_ends W cs e g.timed z in absurd (grind (arith, tells)) ] in
+          let k' : e < most_count = elim (cases_lt e most_count) [
+            | inl z ↦ z
+            | inr z ↦ let q = low_ends W cs e g.timed z in absurd (grind (arith, tells))
+          ] in
           plain hs (low_bus W D d cs s f e) cs os s0 (Some l) (Some l) (watch (suc k) false v sp) (watch (suc k) false v sp) n (n - 1) h (low_bus W D (carries W D cs s) cs s f (e + 1)) SteadyLow g.armed
           (low_stays W D d cs s f e h x) refl (lowered_quiet W e cs) refl refl low_no (ap (λ x. watch (suc k) false x sp) (marks_none W v cs)) (inl (omega arith))
           (low (low_bus W D (carries W D cs s) cs s f (e + 1)) os s0 l v sp cs k r s (carries W D cs s) f (e + 1) (n - 1) refl b (omega arith) (omega arith) m g run y)
@@ -316,16 +324,16 @@ module _ (W : Script) (D : Side) (left : W.Cursor → ℕ) (H : Hosts W) (Alike 
           let u = low_bus W D d cs s f e in
           by_tick hs u os s0 (Some l) (watch (suc k) false v sp) n h (fresh_bus W D o cs s) ks q
           (via_verdicts W D u ks (lines true o) (ap (λ x. x.wire.last) q) (rising_verdicts W e o cs))
-          (silent hs os s0 (Some l) (Some l) (watch (suc k) false v sp) (watch (suc k) true (marked W (early_lost o) l cs) (spell (Some o) sp.letters)) n (513 * r - 256) (fresh_bus W D o cs s) (Rise o) ks
+          (silent hs os s0 (Some l) (Some l) (watch (suc k) false v sp) (watch (suc k) true (marked W (early_lost o) l cs) (spell (Some o) sp.letters)) n (ticks_of_letter * r - ticks_of_low) (fresh_bus W D o cs s) (Rise o) ks
           refl refl (rise_no o) (ap (λ x. watch (suc k) true x (spell (Some o) sp.letters)) (ap (λ x. marks_too W x ks) m.0 ∙ marked_more W never (early_lost o) (early W o) (early_is W o) l cs g.within))
           (tells_none W (early W o) (early_mute W o) cs ∙ ap nobody (sym g.armed))
           (loses_here (spell (Some o) sp.letters) s0 l os v never (early_lost o) (early W o) (early_is W o) cs k r s m.0 g run (λ x e. refl)
           (λ x e z. early_behind D x s o e (ap (λ y. heard D y s) z ∙ run_carries W D left Alike laws (begins W l) (D.begin s0) k r cs s run)))
           (inl (omega arith))
-          (rose (fresh_bus W D o cs s) os s0 l (marked W (early_lost o) l cs) (spell (Some o) sp.letters) cs k r s o (513 * r - 256) refl refl (omega arith) (refl, ap (λ x. spell (Some o) x.letters) m.1) g run y))
+          (rose (fresh_bus W D o cs s) os s0 l (marked W (early_lost o) l cs) (spell (Some o) sp.letters) cs k r s o (ticks_of_letter * r - ticks_of_low) refl refl (omega arith) (refl, ap (λ x. spell (Some o) x.letters) m.1) g run y))
 
-  tick_high : (hs : H.State) (os : Tasks W) (s0 : D.S) (l : Tasks W) (v : List Bool) (sp : Spell) (cs : List (Cell W)) (k r : ℕ) (s : D.S) (d : Bool) (c : Option Bool) (e n h : ℕ) → h ≤ 255 →
-      not (some W holds cs || D.pulls s) ≡ d → e ≤ 255 → n + 257 + e ≡ 513 * suc r → (v ≡ marked W never l cs) × (fallen sp.latched sp.letters ≡ spell None
+  tick_high : (hs : H.State) (os : Tasks W) (s0 : D.S) (l : Tasks W) (v : List Bool) (sp : Spell) (cs : List (Cell W)) (k r : ℕ) (s : D.S) (d : Bool) (c : Option Bool) (e n h : ℕ) → h ≤ most_count →
+      not (some W holds cs || D.pulls s) ≡ d → e ≤ most_count → n + ticks_of_low + 1 + e ≡ ticks_of_letter * suc r → (v ≡ marked W never l cs) × (fallen sp.latched sp.letters ≡ spell None
       (spelled W D (begins W l) (D.begin s0) (suc k))) × Spelt W D (begins W l) (D.begin s0) (suc k) sp s → Crew W l os cs →
       Run W D left Alike (begins W l) (D.begin s0) (suc k) r (cursors W (advance W (unwrap_or c true) cs)) (taken D c s) → Fit W D Fits Rest os l s0 →
       Real hs (settled_bus W D d c cs s e) os s0 (Some l) (watch (suc k) true v sp) n h
@@ -336,7 +344,10 @@ module _ (W : Script) (D : Side) (left : W.Cursor → ℕ) (H : Hosts W) (Alike 
 
       go : (x : Bool) → any_scl W (looks W (settled W e) cs) ≡ x → Real hs (settled_bus W D d c cs s e) os s0 (Some l) (watch (suc k) true v sp) n h
       go false x =
-          let k' : e < 255 = elim (cases_lt e 255) [ inl z ↦ z | inr z ↦ let y = settled_ends W cs e g.timed g.living z in cc ] in
+          let k' : e < most_count = elim (cases_lt e most_count) [
+            | inl z ↦ z
+            | inr z ↦ let y = settled_ends W cs e g.timed g.living z in cc
+          ] in
           let rr = some_r in
           plain hs (settled_bus W D d c cs s e) cs os s0 (Some l) (Some l) (watch (suc k) true v sp) (watch (suc k) true v sp) n (n - 1) h (settled_bus W D d c cs s (e + 1)) SteadyHigh g.armed
           (settled_stays W D d c cs s e h g.timed j x) (steady d) (ap (λ ev. verdicts W (looks W (settled W e) cs) (shown ev (counted c ev) false)) (steady d) ∙ settled_quiet W e cs) refl refl
@@ -344,16 +355,16 @@ module _ (W : Script) (D : Side) (left : W.Cursor → ℕ) (H : Hosts W) (Alike 
           (high (settled_bus W D d c cs s (e + 1)) os s0 l v sp cs k r s d c (e + 1) (n - 1) refl j (omega arith) (omega arith) m g run y)
       go true x =
           let b = unwrap_or c true in
-          plain hs (settled_bus W D d c cs s e) cs os s0 (Some l) (Some l) (watch (suc k) true v sp) (watch (suc (suc k)) false v (fallen sp.latched sp.letters)) n (513 * r) h
+          plain hs (settled_bus W D d c cs s e) cs os s0 (Some l) (Some l) (watch (suc k) true v sp) (watch (suc (suc k)) false v (fallen sp.latched sp.letters)) n (ticks_of_letter * r) h
           (low_bus W D d (advance W b cs) (taken D c s) (asked c h) 0) Fall g.armed
           (settled_falls W D d c cs s e h g.timed j x) refl (settled_fall_quiet W c e cs) refl refl fall_no
           (ap (λ x. watch (suc (suc k)) false x (fallen sp.latched sp.letters)) (marks_none W v cs)) (inl (omega arith))
-          (low (low_bus W D d (advance W b cs) (taken D c s) (asked c h) 0) os s0 l v (fallen sp.latched sp.letters) (advance W b cs) (suc k) r (taken D c s) d (asked c h) 0 (513 * r) refl
+          (low (low_bus W D d (advance W b cs) (taken D c s) (asked c h) 0) os s0 l v (fallen sp.latched sp.letters) (advance W b cs) (suc k) r (taken D c s) d (asked c h) 0 (ticks_of_letter * r) refl
           (asked_to c h hh) (omega arith) (omega arith) (m.0 ∙ sym (marked_advance W b l cs), m.1) (crew_advance W b l os cs g) run y)
 
   -- the tick after the rise: a bit
   fresh_bit : (hs : H.State) (os : Tasks W) (s0 : D.S) (l : Tasks W) (v : List Bool) (sp : Spell) (cs : List (Cell W)) (k r : ℕ) (s : D.S) (b : Bool) (n h j : ℕ) →
-      carries W D cs s ≡ b → n + 256 ≡ 513 * r → (v ≡ marked W (early_lost b) l cs) × (sp ≡ spell (Some b) (spelled W D (begins W l) (D.begin s0) k)) → Crew W l os cs →
+      carries W D cs s ≡ b → n + ticks_of_low ≡ ticks_of_letter * r → (v ≡ marked W (early_lost b) l cs) × (sp ≡ spell (Some b) (spelled W D (begins W l) (D.begin s0) k)) → Crew W l os cs →
       Run W D left Alike (begins W l) (D.begin s0) k r (cursors W cs) s → Fit W D Fits Rest os l s0 →
       least W cs ≡ j → j ≤ 4 → (j ≡ 1 → ⊥) → (j ≡ 2 → ⊥) → tick W D (fresh_bus W D b cs s) h ≡ settled_bus W D b (Some b) (stay W j cs) s 1 → tick_verdicts W D (fresh_bus W D b cs s) ≡ notes W (late W j) cs →
       not (some W holds (stay W j cs) || D.pulls s) ≡ b → Every W (λ x. (early_lost b x || late_lost j x) ≡ not (eqb (rank x) j)) cs →
@@ -385,7 +396,7 @@ module _ (W : Script) (D : Side) (left : W.Cursor → ℕ) (H : Hosts W) (Alike 
 
   -- a repeated Start
   fresh_again : (hs : H.State) (os : Tasks W) (s0 : D.S) (l : Tasks W) (v : List Bool) (sp : Spell) (cs : List (Cell W)) (k r : ℕ) (s : D.S) (n h : ℕ) →
-      carries W D cs s ≡ true → n + 256 ≡ 513 * r → (v ≡ marked W (early_lost true) l cs) × (sp ≡ spell (Some true) (spelled W D (begins W l) (D.begin s0) k)) → Crew W l os cs →
+      carries W D cs s ≡ true → n + ticks_of_low ≡ ticks_of_letter * r → (v ≡ marked W (early_lost true) l cs) × (sp ≡ spell (Some true) (spelled W D (begins W l) (D.begin s0) k)) → Crew W l os cs →
       Run W D left Alike (begins W l) (D.begin s0) k r (cursors W cs) s → Fit W D Fits Rest os l s0 →
       least W cs ≡ 2 → tick W D (fresh_bus W D true cs s) h ≡ settled_bus W D false None (stay W 2 cs) (D.begin s) 0 → tick_verdicts W D (fresh_bus W D true cs s) ≡ notes W (late W 2) cs →
       Every W (λ x. (early_lost true x || late_lost 2 x) ≡ not (eqb (rank x) 2)) cs →
@@ -433,7 +444,7 @@ module _ (W : Script) (D : Side) (left : W.Cursor → ℕ) (H : Hosts W) (Alike 
   fresh_stop hs os s0 l v sp cs k r s n h m g run y e q f ev =
       by_tick hs (fresh_bus W D false cs s) os s0 (Some l) (watch (suc k) true v sp) n h (free_bus W D (finished W cs) (D.finish s)) (notes W (late W 1) cs) q f
       (record {
-        due = 159999;
+        due = ticks_of_turn;
         stands = idle (free_bus W D (finished W cs) (D.finish s)) (disarm os ts) (leader_side W D left (leader W D left l (D.begin s0)) (D.begin s0))
             (sees W (watch (suc k) true v sp) os (Some l) Stop (notes W (late W 1) cs)) (finished W cs)
             (ap (free_bus W D (finished W cs)) (sym side)) (ap₂ (disarm) g.armed (sym told_is) ∙ sym (armeds_finished W cs)) (timed_finished W cs g.timed) (holding_finished W cs) rested
@@ -495,7 +506,7 @@ module _ (W : Script) (D : Side) (left : W.Cursor → ℕ) (H : Hosts W) (Alike 
           stop_side W D left Alike laws l (D.begin s0) k r (cursors W cs) s run stops_here a.0 b.0 b.1
 
   tick_rises : (hs : H.State) (os : Tasks W) (s0 : D.S) (l : Tasks W) (v : List Bool) (sp : Spell) (cs : List (Cell W)) (k r : ℕ) (s : D.S) (b : Bool) (n h j : ℕ) → least W cs ≡ j → j ≤ 4 →
-      carries W D cs s ≡ b → n + 256 ≡ 513 * r → (v ≡ marked W (early_lost b) l cs) × (sp ≡ spell (Some b) (spelled W D (begins W l) (D.begin s0) k)) → Crew W l os cs →
+      carries W D cs s ≡ b → n + ticks_of_low ≡ ticks_of_letter * r → (v ≡ marked W (early_lost b) l cs) × (sp ≡ spell (Some b) (spelled W D (begins W l) (D.begin s0) k)) → Crew W l os cs →
       Run W D left Alike (begins W l) (D.begin s0) k r (cursors W cs) s → Fit W D Fits Rest os l s0 →
       Shape W D cs s → Real hs (fresh_bus W D b cs s) os s0 (Some l) (watch (suc k) true v sp) n h
   tick_rises hs os s0 l v sp cs k r s b n h zero e j4 c z m g run y q =
@@ -534,9 +545,9 @@ module _ (W : Script) (D : Side) (left : W.Cursor → ℕ) (H : Hosts W) (Alike 
   tick_rises hs os s0 l v sp cs k r s b n h (suc (suc (suc (suc (suc j))))) e j4 c z m g run y q = absurd (omega arith)
 
   -- a tick in any phase
-  pub tick_stands : (hs : H.State) (u : Bus W D) (os : Tasks W) (s : D.S) (t : Option (Tasks W)) (w : Watch) (n h : ℕ) → h ≤ 255 → Stands W D left Alike Fits Rest u os s t w n → Real hs u os s t w n h
-  tick_stands hs _ _ _ _ _ _ h hh (idle u os s w cs e a t g q y) = subst (λ x. Real hs x os s None w 159999 h) (sym e) (tick_idle hs os s w cs h a t g q y)
-  tick_stands hs _ _ _ _ _ _ h hh (claims u os s l v sp cs e m g q y) = subst (λ x. Real hs x os s (Some l) (watch 0 false v sp) 158262 h) (sym e) (tick_claims hs os s l v sp cs h m g q y)
+  pub tick_stands : (hs : H.State) (u : Bus W D) (os : Tasks W) (s : D.S) (t : Option (Tasks W)) (w : Watch) (n h : ℕ) → h ≤ most_count → Stands W D left Alike Fits Rest u os s t w n → Real hs u os s t w n h
+  tick_stands hs _ _ _ _ _ _ h hh (idle u os s w cs e a t g q y) = subst (λ x. Real hs x os s None w ticks_of_turn h) (sym e) (tick_idle hs os s w cs h a t g q y)
+  tick_stands hs _ _ _ _ _ _ h hh (claims u os s l v sp cs e m g q y) = subst (λ x. Real hs x os s (Some l) (watch 0 false v sp) (ticks_of_turn - 1) h) (sym e) (tick_claims hs os s l v sp cs h m g q y)
   tick_stands hs _ _ _ _ _ _ h hh (begun u os s l v sp cs k n e b c m g q y) = subst (λ x. Real hs x os s (Some l) (watch 0 false v sp) n h) (sym e) (tick_begun hs os s l v sp cs k n h b c m g q y)
   tick_stands hs _ _ _ _ _ _ h hh (low u os s0 l v sp cs k r s d f f' n e b b' c m g q y) = subst (λ x. Real hs x os s0 (Some l) (watch (suc k) false v sp) n h) (sym e)
       (tick_low hs os s0 l v sp cs k r s d f f' n h b b' c m g q y)

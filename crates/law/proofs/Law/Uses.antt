@@ -10,6 +10,8 @@ use Rattle.master.specs.declared.arming.Arming.TheVariants.{Unarmed, Armed}
 use Rattle.master.specs.Masters.{MasterModel, VerdictModel, quiet, lost, told, new_master, arm_master}
 use Rattle.master.specs.Scripts.{Script}
 use Rattle.wire.specs.Wires.{quiet_wire}
+use Rattle.transfer.specs.Limits.{most_count}
+use Rattle.law.specs.Limits.{most_letters, most_ticks_of_turn}
 use Rattle.law.proofs.Sides.{Side}
 use Rattle.law.proofs.Law.Machine.{Bus, tick, tick_event, tick_verdicts}
 use Rattle.law.proofs.Law.Race.{at, lexb, First, Quiet, alone, alone_side, alone_end}
@@ -332,11 +334,11 @@ module _ (W : Script) (D : Side) (left : W.Cursor → ℕ) (H : Hosts W) where
   uses x [] = x
   uses x (t ∷ ts) = uses (does x t) ts
 
--- a hold answers 0 to 255
+-- a hold answers 0 to most_count
 abbrev pub Held : List Step → Type 0
 Held [] = Unit {0}
 Held (arms i ∷ us) = Held us
-Held (ticks h ∷ us) = (h ≤ 255) × Held us
+Held (ticks h ∷ us) = (h ≤ most_count) × Held us
 
 abbrev pub ticks_of : List Step → ℕ
 ticks_of [] = 0
@@ -345,7 +347,7 @@ ticks_of (ticks h ∷ us) = suc (ticks_of us)
 
 abbrev pub Clocks : List (ℕ × ℕ) → Type 0
 Clocks [] = Unit {0}
-Clocks (c ∷ cs) = ((1 ≤ c.0) × (c.0 ≤ 255) × (1 ≤ c.1) × (c.1 ≤ 255)) × Clocks cs
+Clocks (c ∷ cs) = ((1 ≤ c.0) × (c.0 ≤ most_count) × (1 ≤ c.1) × (c.1 ≤ most_count)) × Clocks cs
 
 module _ (W : Script) (D : Side) (H : Hosts W) where
   -- what holds between any two steps
@@ -401,8 +403,9 @@ module _ (W : Script) (D : Side) (left : W.Cursor → ℕ) (H : Hosts W) where
     pub point : Point W D H x
     pub arming : (i : ℕ) → arm_answer W x.bus.masters (H.wants x.hosts) i ≡ answer x.book.armed (H.wants x.book.hosts) i
     pub ticking : Ticks x
-    -- 160,000 ticks from a point with a master armed tell an outcome, whatever arms come between
-    pub told : any x.book.armed ≡ true → (us : List Step) → Held us → 160000 ≤ ticks_of us → x.told < (uses W D left H x us).told
+    -- so many ticks from a point with a master armed tell an outcome, whatever arms come between
+    pub told : any x.book.armed ≡ true → (us : List Step) → Held us → most_ticks_of_turn ≤ ticks_of us →
+        x.told < (uses W D left H x us).told
 
   -- at every point of every use
   abbrev pub EveryUse : Use W D H → Type 0
@@ -415,7 +418,7 @@ pub record Plays (W : Script) (D : Side) (left : W.Cursor → ℕ) (H : Hosts W)
   pub unheard : (a : H.State) (ts : List (Option W.Outcome)) → ((i : ℕ) → at ts i ≡ None) → H.hear a ts ≡ a
   pub still_wants : (a : H.State) (ts : List (Option W.Outcome)) (i : ℕ) → at ts i ≡ None → at (H.wants (H.hear a ts)) i ≡ at (H.wants a) i
   pub alike : (t u : W.Task) → Fits t → Fits u → Alike (W.begin t) (W.begin u)
-  pub short : (t : W.Task) → Fits t → left (W.begin t) ≤ 308
+  pub short : (t : W.Task) → Fits t → left (W.begin t) ≤ most_letters
   pub quiet : (t : W.Task) (s : D.S) → Fits t → Rest s → Quiet W D (W.begin t) (D.begin s)
   pub calm : (s : D.S) → Rest s → D.pulls s ≡ false
   pub rests : (t : W.Task) (s : D.S) → Fits t → Rest s → Rest (task_side W D left t (D.begin s))

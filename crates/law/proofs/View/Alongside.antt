@@ -23,6 +23,7 @@ use Rattle.law.proofs.Sides.{Side}
 use Rattle.law.proofs.Alone.Alike.{Alike}
 use Rattle.law.proofs.Alone.Idle.{Idle}
 use Rattle.law.specs.Legal.{Legal}
+use Rattle.law.specs.Limits.{most_ticks}
 use Rattle.law.proofs.Alone.PortsSide.{unheld, ports_side, idle_ports, placed}
 use Rattle.law.proofs.Alone.Reached.{noted_by}
 use Rattle.law.proofs.Alone.SlotsLeft.{slots_left}
@@ -50,7 +51,7 @@ module _ (hs : List HostBehaviour) (ds : List Behaviour) (P : Use hs ds → Type
   call_keeps : (x : Use hs ds) (c : Call hs ds) → P x → P (calls hs ds x c)
   call_keeps x (arms n) p = armed x n p
   call_keeps x (ticks a) p = ticked x a p
-  call_keeps x (runs n a) p = either_keeps (ltb 1000000 n) x (run_on hs ds n 0 a x) p (run_keeps n 0 a x p)
+  call_keeps x (runs n a) p = either_keeps (ltb most_ticks n) x (run_on hs ds n 0 a x) p (run_keeps n 0 a x p)
 
   pub calls_keep : (x : Use hs ds) (cs : List (Call hs ds)) → P x → P (used hs ds x cs)
   calls_keep x [] p = p

@@ -7,6 +7,7 @@ use Rattle.wire.specs.declared.wire.Event.{Event}
 use Rattle.wire.specs.declared.wire.Event.TheVariants.{Rise, Fall, Start, Stop, SteadyHigh, SteadyLow}
 use Rattle.law.specs.Banks.{Bank, listed}
 use Rattle.law.specs.Buses.{all_pulls, Holds, ports_step}
+use Rattle.transfer.specs.Limits.{most_count}
 use Rattle.port.specs.Ports.{PortModel, port_pulls, counts}
 use Rattle.law.proofs.Law.Machine.{hold_after}
 
@@ -51,12 +52,13 @@ pub hold_follows : (ds : List Behaviour) (p : Bank PortModel ds) (e : Event) (o 
 hold_follows ds p e o i a h = grind (arith, still ds p e o i a, lowered ds p o i a)
 
 module _ (b : Behaviour) where
-  small_counts : (p : PortModel b) (m : Mode) (x : Bool) (h : ℕ) → p.hold ≤ 255 → h ≤ 255 → (counts b p m x h).hold ≤ 255
+  small_counts : (p : PortModel b) (m : Mode) (x : Bool) (h : ℕ) → p.hold ≤ most_count → h ≤ most_count →
+      (counts b p m x h).hold ≤ most_count
   small_counts p m x h k e = grind arith
 
--- a hold that is asked for is at most 255
-pub asked_small : (ds : List Behaviour) (p : Bank PortModel ds) (x i : Bool) (a : Holds ds) → longest_hold ds p ≤ 255 →
-    longest_hold ds (ports_step ds p (record { event = Fall; bit = Some x; idle = i }) a) ≤ 255
+-- a hold that is asked for is at most most_count
+pub asked_small : (ds : List Behaviour) (p : Bank PortModel ds) (x i : Bool) (a : Holds ds) → longest_hold ds p ≤ most_count →
+    longest_hold ds (ports_step ds p (record { event = Fall; bit = Some x; idle = i }) a) ≤ most_count
 asked_small [] p x i a h = omega arith
 asked_small (b ∷ ds) p x i a h =
     let one = small_counts b p.0 p.0.mode x a.0.0 (omega arith) (omega (arith, a.0.1)) in
@@ -64,7 +66,7 @@ asked_small (b ∷ ds) p x i a h =
     omega arith
 
 pub answers_small : (ds : List Behaviour) (p : Bank PortModel ds) (e : Event) (o : Option Bool) (i : Bool) (a : Holds ds) → (e ≡ Fall → longest_hold ds p ≡ 0) →
-    asked_hold e o (longest_hold ds (ports_step ds p (record { event = e; bit = o; idle = i }) a)) ≤ 255
+    asked_hold e o (longest_hold ds (ports_step ds p (record { event = e; bit = o; idle = i }) a)) ≤ most_count
 answers_small ds p Fall None i a h = omega arith
 answers_small ds p Fall (Some x) i a h = asked_small ds p x i a (omega (arith, h refl))
 answers_small ds p SteadyLow o i a h = omega arith

@@ -13,7 +13,7 @@ use Rattle.law.proofs.Alone.Idle.{Idle, idle_pulls_nothing, quiet_from_idle, idl
 use Rattle.law.specs.Legal.{Legal}
 use Rattle.law.proofs.Alone.PortsSide.{ports_side}
 use Rattle.law.proofs.Alone.Sealed.{legal_transfer}
-use Rattle.law.proofs.Alone.SlotsLeft.{slots_left, at_most_308}
+use Rattle.law.proofs.Alone.SlotsLeft.{slots_left, at_most}
 use Rattle.law.proofs.Law.Race.{at, Laws}
 use Rattle.law.proofs.Law.Uses.{Hosts, Plays}
 
@@ -72,7 +72,7 @@ plays hs ds = record {
   unheard = unheard_all hs;
   still_wants = still_wants_all hs;
   alike = cursor_laws.open_alike;
-  short = at_most_308;
+  short = at_most;
   quiet = λ t s k h n. quiet_from_idle ds t s n k h;
   calm = idle_pulls_nothing ds;
   rests = λ t s k h. idle_at_last ds t s (slots_left (transfers.begin t)) k (le_refl (slots_left (transfers.begin t))) h;

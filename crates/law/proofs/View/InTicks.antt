@@ -4,6 +4,7 @@ use Rattle.device.specs.Behaviours.{Behaviour}
 use Rattle.host.specs.Behaviours.{HostBehaviour}
 use Rattle.law.specs.Buses.{Holds, is_at_rest}
 use Rattle.law.specs.Laws.{Call, arms, ticks, runs, Use, ticks_once, one_by_one, call_in_ticks, in_ticks, calls, used, run_on, ticks_of_run, ticks_of_call, ticks_of}
+use Rattle.law.specs.Limits.{most_ticks}
 
 module _ (hs : List HostBehaviour) (ds : List Behaviour) where
   used_append : (x : Use hs ds) (bs cs : List (Call hs ds)) → used hs ds x (bs ++ cs) ≡ used hs ds (used hs ds x bs) cs
@@ -30,7 +31,7 @@ module _ (hs : List HostBehaviour) (ds : List Behaviour) where
   call_is_ticks : (x : Use hs ds) (c : Call hs ds) → calls hs ds x c ≡ used hs ds x (call_in_ticks hs ds x c)
   call_is_ticks x (arms n) = refl
   call_is_ticks x (ticks a) = refl
-  call_is_ticks x (runs n a) = either (ltb 1000000 n) x (run_on hs ds n 0 a x) (ticks_of_run hs ds n 0 a x) 0 a (run_ticks n 0 a x)
+  call_is_ticks x (runs n a) = either (ltb most_ticks n) x (run_on hs ds n 0 a x) (ticks_of_run hs ds n 0 a x) 0 a (run_ticks n 0 a x)
 
   call_so_many : (x : Use hs ds) (c : Call hs ds) → ticks_of_call hs ds x c ≡ ticks_of hs ds x (call_in_ticks hs ds x c)
   call_so_many x (arms n) = refl

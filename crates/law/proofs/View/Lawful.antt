@@ -20,6 +20,7 @@ use Rattle.master.specs.Scripts.{transfers}
 use Rattle.law.specs.Strings.{rank, first_or_same}
 use Rattle.wire.specs.Wires.{signal}
 use Rattle.law.specs.Legal.{Legal}
+use Rattle.law.specs.Limits.{most_ticks, most_ticks_of_turn}
 use Rattle.law.proofs.Alone.PortsSide.{ports_side}
 use Rattle.law.proofs.Alone.SlotsLeft.{slots_left}
 use Rattle.law.proofs.Alone.StringLaws.{same_ranks}
@@ -169,9 +170,9 @@ module _ (hs : List HostBehaviour) (ds : List Behaviour) where
     arm : (n : ℕ) → (arm_at hs ds x.bus n).0 ≡ (book_arm hs ds b n).0
     arm n = arm_answer_is hs x.bus.masters n ∙ (law.arming n ∙ sym (arm_answers hs b.entries n g.sound.kept))
 
-    run : (n : ℕ) (a : ℕ → Holds ds) → n ≤ 1000000 → (r : RunModel) → (run_at hs ds x.bus n a).0 ≡ Ok r → ((calls hs ds x (runs n a)).told ≡ x.told + r.outcomes) × (ticks_of_call hs ds x (runs n a) ≡ r.ticks)
+    run : (n : ℕ) (a : ℕ → Holds ds) → n ≤ most_ticks → (r : RunModel) → (run_at hs ds x.bus n a).0 ≡ Ok r → ((calls hs ds x (runs n a)).told ≡ x.told + r.outcomes) × (ticks_of_call hs ds x (runs n a) ≡ r.ticks)
     run n a h r e =
-        let few : ltb 1000000 n ≡ false = le-ltb 1000000 n h in
+        let few : ltb most_ticks n ≡ false = le-ltb most_ticks n h in
         let c = run_counts hs ds n 0 0 0 a x in
         let end = goes_on hs ds n a (setting_out hs ds x.bus) in
         let same : reported hs ds end ≡ r = let f : (run_at hs ds x.bus n a).0 ≡ Ok (reported hs ds end) = rw few in cc in
@@ -190,13 +191,14 @@ module _ (hs : List HostBehaviour) (ds : List Behaviour) where
     leaves_either false y r e = sym e
 
     run_leaves : (n : ℕ) (a : ℕ → Holds ds) → (run_at hs ds x.bus n a).1 ≡ (calls hs ds x (runs n a)).bus
-    run_leaves n a = leaves_either (ltb 1000000 n) (run_on hs ds n 0 a x) (run_end n a) (run_counts hs ds n 0 0 0 a x).bus_is
+    run_leaves n a = leaves_either (ltb most_ticks n) (run_on hs ds n 0 a x) (run_end n a) (run_counts hs ds n 0 0 0 a x).bus_is
 
-    lively : any_true (armed_now hs ds x) ≡ true → (cs : List (Call hs ds)) → 160000 ≤ ticks_of hs ds x cs → x.told < (used hs ds x cs).told
+    lively : any_true (armed_now hs ds x) ≡ true → (cs : List (Call hs ds)) → most_ticks_of_turn ≤ ticks_of hs ds x cs →
+        x.told < (used hs ds x cs).told
     lively e cs h =
         let w = reached hs ds x cs g in
         let some : any (tasks hs b.entries) ≡ true = any_somes (tasks hs b.entries) ∙ (ap any_true (entries_armed hs b.entries g.sound.kept ∙ sym armed_same) ∙ e) in
-        let long : 160000 ≤ steps_ticks w.steps = subst (λ n. 160000 ≤ n) (sym w.in_ticks) h in
+        let long : most_ticks_of_turn ≤ steps_ticks w.steps = subst (λ n. most_ticks_of_turn ≤ n) (sym w.in_ticks) h in
         subst (λ u. x.told < u.told) (sym w.as_law) (law.told some w.steps w.held long)
 
     pub lawful : Law hs ds x

@@ -4,6 +4,7 @@ use Rattle.device.specs.Behaviours.{Behaviour}
 use Rattle.host.specs.Behaviours.{HostBehaviour}
 use Rattle.law.specs.Buses.{Holds, is_at_rest}
 use Rattle.law.specs.Laws.{Call, arms, ticks, runs, Use, ticks_once, run_on, calls, used, ticks_of_run, ticks_of_call, ticks_of}
+use Rattle.law.specs.Limits.{most_ticks}
 use Rattle.master.specs.Scripts.{transfers}
 use Rattle.law.proofs.Alone.PortsSide.{ports_side}
 use Rattle.law.proofs.Law.Uses.{Step, arms as step_arms, ticks as step_ticks, Use as LawUse, Held, ticks_of as steps_ticks}
@@ -76,7 +77,7 @@ module _ (hs : List HostBehaviour) (ds : List Behaviour) where
   called : (x : Use hs ds) (c : Call hs ds) → Good hs ds x → Reaches x (calls hs ds x c) (ticks_of_call hs ds x c)
   called x (arms n) k = armed x n k
   called x (ticks a) k = ticked x a k
-  called x (runs n a) k = either (ltb 1000000 n) x (run_on hs ds n 0 a x) (ticks_of_run hs ds n 0 a x) k (ran n 0 a x k)
+  called x (runs n a) k = either (ltb most_ticks n) x (run_on hs ds n 0 a x) (ticks_of_run hs ds n 0 a x) k (ran n 0 a x k)
 
   pub reached : (x : Use hs ds) (cs : List (Call hs ds)) → Good hs ds x → Reaches x (used hs ds x cs) (ticks_of hs ds x cs)
   reached x [] k = nowhere x k

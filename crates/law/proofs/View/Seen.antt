@@ -9,6 +9,7 @@ use Rattle.wire.specs.declared.wire.Levels.{Levels}
 use Rattle.wire.specs.declared.wire.Signal.{Signal}
 use Rattle.law.specs.Banks.{Bank, each, listed}
 use Rattle.law.specs.Buses.{all_pulls, Holds, ports_step, BusModel, levels_at, tick_at}
+use Rattle.transfer.specs.Limits.{most_count}
 use Rattle.master.specs.Serving.{Served, served_step, served_pulls}
 use Rattle.master.specs.Masters.{MasterModel, master_step}
 use Rattle.port.specs.Ports.{PortModel, port_pulls}
@@ -59,7 +60,7 @@ module _ (hs : List HostBehaviour) (ds : List Behaviour) where
   abbrev pub answer_at : BusModel hs ds → Holds ds → ℕ
   answer_at u a = let s = signal u.wire (levels_at hs ds u) in asked_hold s.event s.bit (longest_hold ds (ports_step ds u.ports s a))
 
-  pub answer_small : (u : BusModel hs ds) (a : Holds ds) → LetGo u → answer_at u a ≤ 255
+  pub answer_small : (u : BusModel hs ds) (a : Holds ds) → LetGo u → answer_at u a ≤ most_count
   answer_small u a h = let s = signal u.wire (levels_at hs ds u) in
       answers_small ds u.ports s.event s.bit s.idle a (λ e. h (falls_from_high u.wire.last (levels_at hs ds u) e))
 

@@ -1,5 +1,6 @@
 // How many masters a tick told.
 ghost use Rattle.std.specs.Prelude.{◌≡◌, ◌≤◌};
+ghost use Rattle.law.specs.Limits.{most_masters};
 ghost use Rattle.law.specs.Runs.{tolds};
 
 use super::Tick;
@@ -8,7 +9,7 @@ use master::Mark;
 impl Tick {
     // How many outcomes it told.
     pub fn outcomes(&self) -> u32
-        ensures few { result ≤ 8 }
+        ensures few { result ≤ most_masters }
         ensures all { result ≡ tolds self.now.marks }
     {
         self.marks

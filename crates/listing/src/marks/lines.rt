@@ -1,9 +1,11 @@
 // The lines of a tick: its number and a mark on each.
 ghost use Rattle.std.specs.Prelude.{◌≡◌, ◌+◌, ◌*◌, ◌≤◌, ◌++◌, Some, length, decimal};
+ghost use Rattle.law.specs.Limits.{most_masters};
 ghost use Rattle.text.specs.Decimals.{IsDecimal};
 ghost use Rattle.listing.specs.Lines.{wire_line, loser_lines, stop_line, is_mark, numbers, numbers_text, lines_of};
 
 use super::Marks;
+use law::MOST_MASTERS;
 use master::Mark;
 use std::fmt;
 use text::{ArrayString, Decimal, digit};
@@ -15,14 +17,14 @@ const LINES: usize = 265;
 // The number of each master with this mark, the lowest first, between two texts.
 pub fn push_numbers<const N: usize>(
     text: &mut ArrayString<N>,
-    masters: &[Mark; 8],
+    masters: &[Mark; MOST_MASTERS],
     wanted: Mark,
     before: &str,
     after: &str,
 )
-    requires { length text.old.bytes + 8 * (length before.now + 1 + length after.now) ≤ N }
+    requires { length text.old.bytes + most_masters * (length before.now + 1 + length after.now) ≤ N }
     ensures text { text.new.bytes ≡ text.old.bytes ++ numbers_text before.now after.now (numbers (is_mark wanted) 0 masters.now) }
-    ensures short { length text.new.bytes ≤ length text.old.bytes + 8 * (length before.now + 1 + length after.now) }
+    ensures short { length text.new.bytes ≤ length text.old.bytes + most_masters * (length before.now + 1 + length after.now) }
 {
     for (number, mark) in masters.iter().enumerate() {
         if *mark == wanted {
@@ -54,11 +56,15 @@ fn push_wire<const N: usize>(text: &mut ArrayString<N>, number: &str, wire: Deco
     }
 }
 
-fn push_losers<const N: usize>(text: &mut ArrayString<N>, number: &str, masters: &[Mark; 8])
+fn push_losers<const N: usize>(
+    text: &mut ArrayString<N>,
+    number: &str,
+    masters: &[Mark; MOST_MASTERS],
+)
     requires digits { length number.now ≤ 20 }
-    requires room { length text.old.bytes + 8 * (length number.now + 5) ≤ N }
+    requires room { length text.old.bytes + most_masters * (length number.now + 5) ≤ N }
     ensures text { text.new.bytes ≡ text.old.bytes ++ loser_lines number.now masters.now }
-    ensures short { length text.new.bytes ≤ length text.old.bytes + 8 * (length number.now + 5) }
+    ensures short { length text.new.bytes ≤ length text.old.bytes + most_masters * (length number.now + 5) }
 {
     let mut before = ArrayString::<23>::new();
     before.push_str(number);
@@ -70,7 +76,7 @@ fn push_stop<const N: usize>(
     text: &mut ArrayString<N>,
     number: &str,
     wire: Decoded,
-    masters: &[Mark; 8],
+    masters: &[Mark; MOST_MASTERS],
 )
     requires { length text.old.bytes + length number.now + 19 ≤ N }
     ensures { text.new.bytes ≡ text.old.bytes ++ stop_line number.now wire masters.now }

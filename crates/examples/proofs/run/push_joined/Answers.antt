@@ -2,7 +2,7 @@ use Rattle.std.proofs.Common.{◌≡◌, option_map, refl, sym, ap, ◌∙◌}
 use Rattle.transfer.specs.Outcomes.{outcome_model}
 use Rattle.host.specs.ListHosts.{listed}
 use Rattle.exchange.specs.Parts.{bus_model}
-use Rattle.law.specs.Laws.{most_ticks_of_turn}
+use Rattle.law.specs.Limits.{most_ticks_of_turn}
 use Rattle.examples.specs.Runs.{joined_line, queues_ran}
 use Rattle.examples.proofs.Joined.{never, told_last, line_is, no_line}
 use Rattle.examples.proofs.run.push_joined.Goals as goal

@@ -1,6 +1,7 @@
 use Rattle.std.proofs.Common.{ap, ◌∙◌}
 use Rattle.law.specs.Buses.{levels_at}
 use Rattle.exchange.specs.Parts.{bus_model}
+use Rattle.law.specs.Limits.{most_masters}
 use Rattle.law.specs.Runs.{tolds}
 use Rattle.wire.specs.Wires.{signal}
 use Rattle.exchange.proofs.Counting.{tolds_are_all}
@@ -15,6 +16,6 @@ returns g c =
     record {
       few = c.outcomes.ensures.few;
       all = c.outcomes.ensures.all ∙ ap (λ x. tolds x.0.marks) tick.2
-          ∙ tolds_are_all hs (signal u.wire (levels_at hs ds u)) u.masters 8 c.args.self.now.few_masters;
+          ∙ tolds_are_all hs (signal u.wire (levels_at hs ds u)) u.masters most_masters c.args.self.now.few_masters;
       after = (c.tick.result, tick);
     }
