@@ -39,7 +39,12 @@ module _ (b : Behaviour) where
 
   -- a finish closes the selection
   abbrev pub finished : Busied → Busied
-  finished m = record { number = m.number; left = cond (is_written m.selection) m.number m.left; selection = Closed; below = b.finish m.below }
+  finished m = record {
+    number = m.number;
+    left = cond (is_written m.selection) m.number m.left;
+    selection = Closed;
+    below = b.finish m.below;
+  }
 
   abbrev pub busy_over : Behaviour
   busy_over = record {
