@@ -5,14 +5,14 @@ use crate::leg::Leg;
 use std::marker::Model;
 
 // Clauses see it by `transfer_model`: the model of a copied type gives its fields back, and that of a leg cannot.
-#[derive(Clone, Copy, PartialEq, Eq, Debug)]
+#[derive(Clone, Copy, Debug)]
 pub struct Transfer {
     first: Leg,
     second: Option<Leg>,
 }
 
 // The transfer so far. It cannot be copied, so that nothing can be added to it once it is sealed.
-#[derive(Drop)]
+#[derive(Drop, Debug)]
 pub struct Draft {
     transfer: Transfer,
 }
@@ -25,4 +25,5 @@ impl Model for Draft {
 }
 
 mod calls;
+mod same;
 mod whole;

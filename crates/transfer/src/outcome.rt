@@ -4,8 +4,11 @@ ghost use Rattle.transfer.specs.Outcomes.{outcome_model};
 ghost use Rattle.transfer.specs.OutcomeTexts.{outcome_text};
 
 use crate::bytes::ReadBytes;
+use arrayvec::ArrayString;
 use std::fmt;
-use text::{ArrayString, Decimal, push_bytes};
+use text::{Decimal, push_bytes};
+
+mod same;
 
 // Legs and bytes count from 0.
 #[derive(Clone, Copy, PartialEq, Eq, Debug)]
@@ -26,7 +29,7 @@ pub enum OutcomeKind {
     Refused(BytePlace),
 }
 
-#[derive(Clone, Copy, PartialEq, Eq, Debug)]
+#[derive(Clone, Copy, Debug)]
 pub struct Outcome {
     pub kind: OutcomeKind,
     pub read: ReadBytes,

@@ -1,5 +1,6 @@
 // Bytes are compared and printed by those that they hold. What lies behind the length does not count, so neither is derived.
-ghost use Rattle.std.specs.Prelude.{◌≡◌, ◌↔◌, IsTrue, Some, decimal, nat_eq};
+ghost use Rattle.std.specs.Prelude.{◌≡◌, Some, decimal, nat_eq};
+ghost use Rattle.std.specs.Bool.{Decides};
 ghost use Rattle.std.specs.Cmp.{on_equiv, partial_equiv_from_equiv};
 ghost use Rattle.std.specs.Cmp.Lexicographic.{pointwise, nat_list_eq_equiv};
 ghost use Rattle.std.specs.Fmt.{debug_list};
@@ -13,7 +14,10 @@ impl<const N: usize> PartialEq for Bytes<N> {
 
     ghost laws = { partial_equiv_from_equiv (on_equiv bytes_in nat_list_eq_equiv) };
 
-    fn eq(&self, other: &Bytes<N>) -> bool {
+    fn eq(&self, other: &Bytes<N>) -> bool
+        ensures value { result ≡ pointwise nat_eq (bytes_in self.now) (bytes_in other.now) }
+        ensures same { Decides result (bytes_in self.now ≡ bytes_in other.now) }
+    {
         self.as_slice() == other.as_slice()
     }
 }
