@@ -11,7 +11,7 @@ use std::fmt;
 pub struct Decimal(pub u64);
 
 impl Decimal {
-    // The digits that it puts are a decimal of the number, and no other text is one. A number of 64 bits has 20 at most.
+    /// The digits that it puts are a decimal of the number, and no other text is one. A number of 64 bits has 20 at most.
     pub fn push_to<const N: usize>(self, text: &mut ArrayString<N>)
         requires { length text.old.bytes + 20 ≤ N }
         ensures text { text.new.bytes ≡ text.old.bytes ++ decimal self.0 }

@@ -36,7 +36,7 @@ pub struct Outcome {
 }
 
 impl Outcome {
-    // An outcome in the words of a run's last lines: legs and bytes count from 0. An outcome has 32 bytes at most.
+    /// An outcome in the words of a run's last lines: legs and bytes count from 0. An outcome has 32 bytes at most.
     pub fn push_to<const N: usize>(&self, text: &mut ArrayString<N>)
         requires { length text.old.bytes + 100 ≤ N }
         ensures text { text.new.bytes ≡ text.old.bytes ++ outcome_text (outcome_model self.now) }

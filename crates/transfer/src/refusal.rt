@@ -24,7 +24,7 @@ impl Refusal {
         self as u8
     }
 
-    /// What was refused, in words; a limit stands in them where there is one. Those of a length fit all that have one.
+    /// What was refused, in words, with the limit where there is one. One message is for all lengths.
     pub fn message(self) -> &'static str
         ensures { result.now ≡ message self }
     {
