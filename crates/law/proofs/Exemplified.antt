@@ -11,7 +11,7 @@ use Rattle.master.specs.declared.arming.Arming.TheVariants.{Unarmed, Armed}
 use Rattle.law.specs.Banks.{Bank}
 use Rattle.law.specs.Books.{Entry, least, told_all, devices_after, leave_all}
 use Rattle.law.specs.Carrying.{Placed, Carried, carried}
-use Rattle.law.specs.Examples.{RefusedExamples, StringExamples, TurnExamples, Exhibits, WorkedExamples, two_hosts, open_book, Turn, Wins, placed, write, read_of, write_read, done, pointed_at, busy_registers, stored_at_3}
+use Rattle.law.specs.Examples.{RefusedExamples, StringExamples, TurnExamples, Exhibits, WorkedExamples, two_hosts, open_book, EndOfTurn, Wins, placed, write, read_of, write_read, done, pointed_at, busy_registers, stored_at_3}
 
 module _ (b : Behaviour) (m : b.Meaning) where
   -- both carried alone, who is told what, and the device after it
@@ -33,7 +33,7 @@ module _ (b : Behaviour) (m : b.Meaning) where
       transfer_model f ≡ a → transfer_model g ≡ c →
       tells a c ≡ told_0 ∷ told_1 ∷ [] → device_after a c ≡ placed b after →
       (entries_after f g a c).0.arming ≡ arming_0 → (entries_after f g a c).1.0.arming ≡ arming_1 →
-      Turn b f g m told_0 told_1 after arming_0 arming_1
+      EndOfTurn b f g m told_0 told_1 after arming_0 arming_1
   turn f g a c told_0 told_1 after arming_0 arming_1 e h t d x y =
       record {
         told = ap₂ (λ p q. tells p q) e h ∙ t;

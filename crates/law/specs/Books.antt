@@ -18,7 +18,7 @@ use Rattle.law.specs.Strings.{same_string, first_or_same}
 -- a master's line in the book
 pub record Entry (h : HostBehaviour) : Type 0 where
   pub meaning : h.Meaning
-  -- where it is armed, with what its host wants
+  -- whether it is armed; what it then sends is what its host wants
   pub arming : Arming (Unit {0})
   -- a contender of the open turn
   pub contends : Bool

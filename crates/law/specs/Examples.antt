@@ -58,7 +58,7 @@ module _ (b : Behaviour) where
   open_book f g m = book_after two_hosts (b ∷ []) (book_arm two_hosts (b ∷ []) (book_arm two_hosts (b ∷ []) (book f g m) 0).1 1).1 SteadyHigh
 
   -- at the stop of the turn of f and g from the device m: who is told what, what the device then means, and who is still armed
-  pub record Turn (f g : Transfer) (m : b.Meaning) (told_0 told_1 : Option OutcomeModel) (after : b.Meaning)
+  pub record EndOfTurn (f g : Transfer) (m : b.Meaning) (told_0 told_1 : Option OutcomeModel) (after : b.Meaning)
       (arming_0 arming_1 : Arming (Unit {0})) : Type 0 where
     pub told : book_tells two_hosts (b ∷ []) (open_book f g m) Stop ≡ told_0 ∷ told_1 ∷ []
     pub device : (book_after two_hosts (b ∷ []) (open_book f g m) Stop).devices ≡ placed after
@@ -174,15 +174,15 @@ pub record StringExamples : Type 0 where
 -- the first of two transfers to a fresh register file wins over the second, whichever master sends it, reads these bytes, and leaves the register file so
 abbrev pub Wins : TransferModel → TransferModel → List ℕ → Registers → Type 0
 Wins a b xs after = (f g : Transfer) → transfer_model f ≡ a → transfer_model g ≡ b →
-    Turn register_file f g new_registers (done xs) None after Unarmed (Armed tt)
-    × Turn register_file g f new_registers None (done xs) after (Armed tt) Unarmed
+    EndOfTurn register_file f g new_registers (done xs) None after Unarmed (Armed tt)
+    × EndOfTurn register_file g f new_registers None (done xs) after (Armed tt) Unarmed
 
 -- two transfers of which the first wins so over the second
 pub record Exhibits (a b : TransferModel) (xs : List ℕ) (after : Registers) (f g : Transfer) : Type 0 where
   pub first_is : transfer_model f ≡ a
   pub second_is : transfer_model g ≡ b
-  pub first_wins : Turn register_file f g new_registers (done xs) None after Unarmed (Armed tt)
-  pub wins_as_second : Turn register_file g f new_registers None (done xs) after (Armed tt) Unarmed
+  pub first_wins : EndOfTurn register_file f g new_registers (done xs) None after Unarmed (Armed tt)
+  pub wins_as_second : EndOfTurn register_file g f new_registers None (done xs) after (Armed tt) Unarmed
 
 pub record TurnExamples : Type 0 where
   pub stop_over_one : Wins (write (0x03 ∷ [])) (write (0x03 ∷ 0x80 ∷ [])) [] (pointed_at 3)
@@ -192,7 +192,7 @@ pub record TurnExamples : Type 0 where
   pub more_over_fewer : Wins (read_of 3) (read_of 2) (0 ∷ 0 ∷ 0 ∷ []) (pointed_at 3)
   -- two equal writes are one turn that tells both; the device takes its steps once, as a busy layer shows
   pub equal_writes : (f g : Transfer) → transfer_model f ≡ write (0x03 ∷ 0x12 ∷ []) → transfer_model g ≡ write (0x03 ∷ 0x12 ∷ []) →
-      Turn (busy_over register_file) f g (busy_registers 0 new_registers) (done []) (done [])
+      EndOfTurn (busy_over register_file) f g (busy_registers 0 new_registers) (done []) (done [])
       (busy_registers 1 (stored_at_3 4)) Unarmed Unarmed
 
 -- two queues at one address

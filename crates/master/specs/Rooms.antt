@@ -1,6 +1,6 @@
 -- Which leg a cursor is in, and how many bytes it may have read by then. Assumes nothing.
 use Rattle.std.specs.Prelude.{ℕ, ◌+◌, ◌-◌, ◌*◌, None, Option}
-use Rattle.transfer.specs.Limits.{most_bytes, most_legs}
+use Rattle.transfer.specs.Limits.{most_bytes, most_bytes_read}
 use Rattle.transfer.specs.declared.leg.Leg.{Leg}
 use Rattle.master.specs.declared.cursor.At.{At}
 use Rattle.master.specs.declared.cursor.At.TheVariants.{InLeg, Restart, End}
@@ -19,4 +19,4 @@ leg_to_come Second = None
 abbrev pub most_read : At → Rest → ℕ → ℕ
 most_read InLeg s y = most_bytes * leg_number s + (y - 1)
 most_read Restart s y = most_bytes
-most_read End s y = most_legs * most_bytes
+most_read End s y = most_bytes_read

@@ -2,7 +2,8 @@
 ghost use Rattle.std.specs.Prelude.{◌≡◌};
 ghost use Rattle.master.specs.Armings.{is_armed};
 
-/// A master that is armed stays so until its host is told an outcome, also while it contends and once it has lost.
+/// A master that is armed stays so until its host is told an outcome or the master is reset, also while it contends and
+/// once it has lost.
 #[derive(Clone, Copy, PartialEq, Eq, Debug)]
 pub enum Arming<T> {
     Unarmed,

@@ -3,7 +3,6 @@ use Rattle.std.specs.Prelude.{ℕ, cond, List, length, None, Ok, Err, Result, na
 use Rattle.transfer.specs.declared.draft.Transfer.{Transfer}
 use Rattle.transfer.specs.Limits.{most_items}
 use Rattle.host.specs.ListHosts.{Listed}
-use Rattle.transfer.specs.Limits.{most_items}
 
 abbrev pub full_list : List Transfer → Result Listed ℕ
 full_list ts = cond (nat_le (length ts) most_items) (Ok (record { rest = ts; last = None })) (Err 4)

@@ -1,4 +1,4 @@
-// Numbers and bytes as text, put at the end of a text of fixed size. None of these can fail: each asks for room.
+// Numbers and bytes as text, put at the end of a text of fixed size by functions that cannot fail: each asks for room.
 #![tactic(auto)]
 
 mod decimal;

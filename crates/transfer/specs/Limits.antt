@@ -20,8 +20,8 @@ abbrev pub most_legs : ℕ
 most_legs = 2
 
 -- how many bytes a transfer reads
-abbrev pub most_read : ℕ
-most_read = most_legs * most_bytes
+abbrev pub most_bytes_read : ℕ
+most_bytes_read = most_legs * most_bytes
 
 -- a count of a clock is a byte above 0, and an answer to hold is a byte
 abbrev pub most_count : ℕ

@@ -45,7 +45,7 @@ impl Address {
         self.number
     }
 
-    // Whether a port of this address answers to the seven bits of an address byte.
+    /// Whether a port of this address answers to the upper seven bits of an address byte.
     pub fn answers_to(self, asked: u8) -> bool
         ensures { result ≡ answers_to self.number asked }
     {

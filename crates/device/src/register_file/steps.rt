@@ -23,7 +23,7 @@ impl RegisterFile {
         self.bytes
     }
 
-    /// The register that the next byte is stored in or taken from, from 0 to 15.
+    /// The register, from 0 to 15, that the next byte is taken from, or stored in once a write has set the pointer.
     pub fn pointer(&self) -> u8
         ensures { result ≡ (registers self.now).pointer }
     {

@@ -23,7 +23,7 @@ impl<H: Host> Master<H> {
         }
     }
 
-    /// For how many ticks it holds the clock low, and then high.
+    /// For how many ticks it keeps the clock low at least, and then lets it be high at most.
     pub fn clock(&self) -> ClockPair
         ensures { result ≡ self.now.state.clock }
     {
