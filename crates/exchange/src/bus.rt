@@ -8,6 +8,8 @@ use wire::Wire;
 mod calls;
 mod running;
 
+pub use running::MOST_TICKS;
+
 // It cannot be copied, and closing it moves it: a closed bus is not ticked. Clauses see it by `bus_model`: the value of a
 // model cannot name what its banks stand for.
 #[derive(Drop)]

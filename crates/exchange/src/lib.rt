@@ -5,8 +5,8 @@ mod bank;
 mod bus;
 
 pub use bank::{End, Masters, Ports};
-pub use bus::{Bus, Run};
-pub use law::{Tick, worked_examples};
+pub use bus::{Bus, MOST_TICKS, Run};
+pub use law::{MOST_MASTERS, Tick, worked_examples};
 pub use master::{Mark, Master};
 pub use port::Port;
 pub use wire::{Event, Latch, Levels, Pulls, Signal};

@@ -16,12 +16,12 @@ number TooManyTicks = 8
 abbrev pub message : Refusal → List ℕ
 message AddressOutOfRange = codes "address not from 8 to 119"
 message ClockOutOfRange = codes "clock count not from 1 to 255"
-message TwoLegsAlready = codes "two legs already"
+message TwoLegsAlready = codes "a transfer has two legs at most"
 message LengthOutOfRange = codes "length out of range: a write has at most 16 bytes, a read 1 to 16, a list or a queue at most 8 items"
 message NoSuchMaster = codes "no master of this number"
 message ArmedAlready = codes "master armed already"
 message NothingWanted = codes "host wants nothing"
-message TooManyTicks = codes "more than 1000000 ticks"
+message TooManyTicks = codes "more than 1000000 ticks asked for"
 
 -- an answer as a definition sees it: what was made, by its model, or the number of the refusal
 abbrev pub answer : {T U : Type 0} → (T → U) → Result T Refusal → Result U ℕ

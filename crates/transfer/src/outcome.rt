@@ -4,9 +4,8 @@ ghost use Rattle.transfer.specs.Outcomes.{outcome_model};
 ghost use Rattle.transfer.specs.OutcomeTexts.{outcome_text};
 
 use crate::bytes::ReadBytes;
-use arrayvec::ArrayString;
 use std::fmt;
-use text::{Decimal, push_bytes};
+use text::{ArrayString, Decimal, push_bytes};
 
 mod same;
 
@@ -36,7 +35,7 @@ pub struct Outcome {
 }
 
 impl Outcome {
-    /// An outcome in the words of a run's last lines: legs and bytes count from 0. An outcome has 32 bytes at most.
+    /// What came of it in words: legs and bytes count from 0, and the bytes read, 32 at most, are in base sixteen.
     pub fn push_to<const N: usize>(&self, text: &mut ArrayString<N>)
         requires { length text.old.bytes + 100 ≤ N }
         ensures text { text.new.bytes ≡ text.old.bytes ++ outcome_text (outcome_model self.now) }

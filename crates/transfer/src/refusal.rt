@@ -31,14 +31,14 @@ impl Refusal {
         match self {
             Refusal::AddressOutOfRange => "address not from 8 to 119",
             Refusal::ClockOutOfRange => "clock count not from 1 to 255",
-            Refusal::TwoLegsAlready => "two legs already",
+            Refusal::TwoLegsAlready => "a transfer has two legs at most",
             Refusal::LengthOutOfRange => {
                 "length out of range: a write has at most 16 bytes, a read 1 to 16, a list or a queue at most 8 items"
             }
             Refusal::NoSuchMaster => "no master of this number",
             Refusal::ArmedAlready => "master armed already",
             Refusal::NothingWanted => "host wants nothing",
-            Refusal::TooManyTicks => "more than 1000000 ticks",
+            Refusal::TooManyTicks => "more than 1000000 ticks asked for",
         }
     }
 }

@@ -12,8 +12,8 @@ use super::{Bus, Run};
 use crate::bank::{Masters, Ports};
 use transfer::Refusal;
 
-// How many ticks a run may be asked for.
-const MOST_TICKS: u32 = 1_000_000;
+/// How many ticks a run may be asked for.
+pub const MOST_TICKS: u32 = 1_000_000;
 
 impl<M: Masters, P: Ports> Bus<M, P> {
     // Ticks until the bus is at rest, `n` times at most. It counts its ticks by hand: a run may end at either, and its

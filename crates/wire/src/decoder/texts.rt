@@ -7,6 +7,7 @@ use std::fmt;
 use text::{ArrayString, push_hex};
 
 impl Acknowledge {
+    /// As listings of a bus have it.
     pub fn letter(self) -> &'static str
         ensures { result.now ≡ letter_of self ∷ [] }
     {
@@ -26,6 +27,7 @@ impl fmt::Display for Acknowledge {
 }
 
 impl DecodedByte {
+    /// The byte in base sixteen, then the letter of its acknowledge.
     pub fn push_to<const N: usize>(self, text: &mut ArrayString<N>)
         requires { length text.old.bytes + 4 ≤ N }
         ensures { text.new.bytes ≡ text.old.bytes ++ byte_text self }
