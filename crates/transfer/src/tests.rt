@@ -30,7 +30,7 @@ fn a_refusal_prints_its_message(rt: HostRuntime) {
     let text = format!(in rt.alloc(); "refused: {}", Refusal::TwoLegsAlready);
     assert_eq!(rt;
         text.expect(&rt, "memory").as_str(),
-        "refused: two legs already"
+        "refused: a transfer has two legs at most"
     );
 }
 
