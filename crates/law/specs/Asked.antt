@@ -111,15 +111,15 @@ handed (put x v ∷ ss) = handed ss
 handed (take x ∷ ss) = x ∷ handed ss
 handed (finish ∷ ss) = handed ss
 
--- how often a port with address a is called before leg k
+-- how often a port with address o is called before leg k
 abbrev pub called_before : TransferModel → ℕ → ℕ → ℕ
-called_before t k a = cond (nat_lt 0 k && answers_to a t.first.address) 1 0
+called_before t k o = cond (nat_lt 0 k && answers_to o t.first.address) 1 0
 
--- the bytes that each port's device handed over in its call n, counted from 0, at address a
-abbrev pub handed_over : ℕ → ℕ → List ℕ → List (List Step) → List (List ℕ)
+-- the bytes that each port's device handed over in a leg at address a, where a port with address o was called n o times before
+abbrev pub handed_over : ℕ → (ℕ → ℕ) → List ℕ → List (List Step) → List (List ℕ)
 handed_over a n [] rs = []
 handed_over a n (o ∷ os) [] = []
-handed_over a n (o ∷ os) (r ∷ rs) = cond (answers_to o a) (handed (slice_index_or (calls_of r) n [])) [] ∷ handed_over a n os rs
+handed_over a n (o ∷ os) (r ∷ rs) = cond (answers_to o a) (handed (slice_index_or (calls_of r) (n o) [])) [] ∷ handed_over a n os rs
 
 -- of some lists the items at y
 abbrev pub all_at : ℕ → List (List ℕ) → List ℕ
@@ -177,7 +177,7 @@ module _ (hs : List HostBehaviour) (ds : List Behaviour) where
     -- for a byte that a done outcome reports somebody handed one over, and it has the 1 bits that all had who did
     pub reported : (i : ℕ) (t : TransferModel) (o : OutcomeModel) → Contends x i t → slice_index_or (told_at hs ds x.bus) i None ≡ Some o → o.kind ≡ Done →
         (k a n : ℕ) → leg_of t k ≡ Some (read_leg a n) → (y : ℕ) → y < n →
-        JoinedFrom (all_at y (handed_over a (called_before t k a) (addresses x) (asked_then hs ds x))) (slice_index o.bytes (read_before t k + y))
+        JoinedFrom (all_at y (handed_over a (called_before t k) (addresses x) (asked_then hs ds x))) (slice_index o.bytes (read_before t k + y))
     -- so it is the byte of the one device that did, if one alone did
     pub alone : (byte : ℕ) → byte < 256 → joined (byte ∷ []) ≡ byte
     -- at the stop of a turn the steps asked in it are those of a transfer that is told, carried alone: once, however many are told

@@ -5,7 +5,6 @@ use Rattle.std.proofs.Math.ListN.{get_or-append}
 use Rattle.std.specs.List.{slice_get}
 use Rattle.std.specs.Option.{option_to_list}
 use Rattle.std.proofs.lemmas.Bool.{or_cases}
-use Rattle.std.proofs.lemmas.Bool.Decides.{nat_tests}
 use Rattle.std.proofs.lemmas.List.{get_or-append-add}
 use Rattle.transfer.specs.declared.leg.Direction.TheVariants.{Read}
 use Rattle.transfer.specs.declared.outcome.OutcomeKind.{OutcomeKind}
@@ -101,25 +100,22 @@ no_calls_more (b ∷ ds) d = (([], sym (append-nil (calls_of d.0.meaning.steps))
 leg_more : (a : ℕ) (ds : List Behaviour) (d e : Bank Placed (all_recorded ds)) → Together Placed (After a) ds d e → Together Placed More ds d e
 leg_more a ds d e h = together_still Placed (After a) More (λ b d p q. let c = calls_since (answers_to d.address a) q.0 d.meaning.steps p.meaning.steps q.1.since in (c.call, c.last)) ds d e h
 
-same_address : (o f a : ℕ) → answers_to o a ≡ true → ◌≡◌ {A = ℕ} (cond (answers_to o f) 1 0) (cond (answers_to a f) 1 0)
-same_address o f a h = grind (arith, nat_tests)
-
 module _ (a n : ℕ) where
   handed_first : (ds : List Behaviour) (d : Bank Placed ds) (e z : Bank Placed (all_recorded ds)) → Together Placed (AfterRead a n) ds (all_unnoted ds d) e → Together Placed More ds e z →
-      handed_over a 0 (listed (λ b p. p.address) ds d) (all_noted ds z) ≡ hands n ds (called_for (all_recorded ds) a Read (all_unnoted ds d))
+      handed_over a (λ o. 0) (listed (λ b p. p.address) ds d) (all_noted ds z) ≡ hands n ds (called_for (all_recorded ds) a Read (all_unnoted ds d))
   handed_first [] d e z h k = refl
   handed_first (b ∷ ds) d e z h k = ap₂ ◌∷◌ (one_handed (answers_to d.0.address a) (gives_in a n b (all_unnoted (b ∷ ds) d).0) [] e.0.meaning.steps z.0.meaning.steps 0 k.0.0 h.0.since k.0.1 (λ v. refl))
       (handed_first ds d.1 e.1 z.1 h.1 k.1)
 
   handed_second : (f : ℕ) (ds : List Behaviour) (d : Bank Placed ds) (e z : Bank Placed (all_recorded ds)) → Together Placed (After f) ds (all_unnoted ds d) e → Together Placed (AfterRead a n) ds e z →
-      handed_over a (cond (answers_to a f) 1 0) (listed (λ b p. p.address) ds d) (all_noted ds z) ≡ hands n ds (called_for (all_recorded ds) a Read e)
+      handed_over a (λ o. cond (answers_to o f) 1 0) (listed (λ b p. p.address) ds d) (all_noted ds z) ≡ hands n ds (called_for (all_recorded ds) a Read e)
   handed_second f [] d e z h k = refl
   handed_second f (b ∷ ds) d e z h k =
       let o = d.0.address in
       let c = calls_since (answers_to o f) h.0.0 [] e.0.meaning.steps h.0.1.since in
-      ap₂ ◌∷◌ (ap (λ v. cond (answers_to v a) (handed (get_or (calls_of z.0.meaning.steps) (cond (answers_to a f) 1 0) [])) []) (sym h.0.1.address) ∙
-      one_handed (answers_to e.0.address a) (gives_in a n b e.0) e.0.meaning.steps z.0.meaning.steps z.0.meaning.steps (cond (answers_to a f) 1 0) [] k.0.since (sym (append-nil (calls_of z.0.meaning.steps)))
-      (λ v. ap length c.last ∙ (c.one ∙ same_address o f a (ap (λ m. answers_to m a) (sym h.0.1.address) ∙ v))))
+      ap₂ ◌∷◌ (ap (λ v. cond (answers_to v a) (handed (get_or (calls_of z.0.meaning.steps) (cond (answers_to o f) 1 0) [])) []) (sym h.0.1.address) ∙
+      one_handed (answers_to e.0.address a) (gives_in a n b e.0) e.0.meaning.steps z.0.meaning.steps z.0.meaning.steps (cond (answers_to o f) 1 0) [] k.0.since (sym (append-nil (calls_of z.0.meaning.steps)))
+      (λ v. ap length c.last ∙ c.one))
       (handed_second f ds d.1 e.1 z.1 h.1 k.1)
 
 named_done : (es : List Behaviour) (k : OutcomeKind) (ys : List ℕ) → (outcome_named es k ys).kind ≡ Done → (k ≡ Done) × ((outcome_named es k ys).bytes ≡ ys)
@@ -169,48 +165,48 @@ module _ (ds : List Behaviour) (d : Bank Placed ds) (a n y : ℕ) (h : y < n) wh
   abbrev new : Bank Placed rs
   new = all_unnoted ds d
 
-  -- what was handed over for the byte in call c
-  abbrev by : ℕ → Bank Placed rs → List ℕ
+  -- what was handed over for the byte, where a port with address o was called c o times before
+  abbrev by : (ℕ → ℕ) → Bank Placed rs → List ℕ
   by c z = all_at y (handed_over a c (listed (λ b p. p.address) ds d) (all_noted ds z))
 
-  in_first : (more : List ℕ) (z : Bank Placed rs) → let r = passed rs 0 (read_leg a n) new in r.kind ≡ Done → Together Placed More ds (each settled rs r.devices) z → JoinedFrom (by 0 z) (get_or (r.bytes ++ more) y 0)
+  in_first : (more : List ℕ) (z : Bank Placed rs) → let r = passed rs 0 (read_leg a n) new in r.kind ≡ Done → Together Placed More ds (each settled rs r.devices) z → JoinedFrom (by (λ o. 0) z) (get_or (r.bytes ++ more) y 0)
   in_first more z k m = let r = passed rs 0 (read_leg a n) new in let q = answered rs 0 (read_leg a n) new k in let e = called_for rs a Read new in
       let s = subst (λ w. Together Placed (AfterRead a n) ds new (each settled rs w)) (sym q.1) (read_leg_noted a ds n new) in
-      joined_as (all_at y (hands n ds e)) (by 0 z) (get_or (read rs n e).bytes y 0) (get_or (r.bytes ++ more) y 0)
+      joined_as (all_at y (hands n ds e)) (by (λ o. 0) z) (get_or (read rs n e).bytes y 0) (get_or (r.bytes ++ more) y 0)
       (ap (all_at y) (sym (handed_first a n ds d (each settled rs r.devices) z s m)))
       (sym (get_or-append r.bytes more 0 y (omega (arith, ap length q.0, read_length rs n e)) ∙ ap (λ l. get_or l y 0) q.0)) (read_hands n y ds e h q.2)
 
   in_second : (w : LegModel) → let r = passed rs 0 w new in let q = passed rs 1 (read_leg a n) (each settled rs r.devices) in r.kind ≡ Done → q.kind ≡ Done →
-      JoinedFrom (by (cond (answers_to a w.address) 1 0) (each settled rs q.devices)) (get_or (r.bytes ++ q.bytes) (body_reads w.body + y) 0)
+      JoinedFrom (by (λ o. cond (answers_to o w.address) 1 0) (each settled rs q.devices)) (get_or (r.bytes ++ q.bytes) (body_reads w.body + y) 0)
   in_second w k j = let r = passed rs 0 w new in let s = each settled rs r.devices in let q = passed rs 1 (read_leg a n) s in let u = answered rs 1 (read_leg a n) s j in let e = called_for rs a Read s in
       let f = subst (λ p. Together Placed (AfterRead a n) ds s (each settled rs p)) (sym u.1) (read_leg_noted a ds n s) in
-      joined_as (all_at y (hands n ds e)) (by (cond (answers_to a w.address) 1 0) (each settled rs q.devices)) (get_or (read rs n e).bytes y 0) (get_or (r.bytes ++ q.bytes) (body_reads w.body + y) 0)
+      joined_as (all_at y (hands n ds e)) (by (λ o. cond (answers_to o w.address) 1 0) (each settled rs q.devices)) (get_or (read rs n e).bytes y 0) (get_or (r.bytes ++ q.bytes) (body_reads w.body + y) 0)
       (ap (all_at y) (sym (handed_second a n w.address ds d s (each settled rs q.devices) (leg_noted w.address ds 0 w.body new) f)))
       (sym (ap (λ m. get_or (r.bytes ++ q.bytes) (m + y) 0) (sym (ap length (answered rs 0 w new k).0 ∙ body_length rs 0 w.body (called_for rs w.address (body_direction w.body) new))) ∙
       (get_or-append-add r.bytes q.bytes y 0 ∙ ap (λ l. get_or l y 0) u.0))) (read_hands n y ds e h u.2)
 
-  first_told : (o : Option LegModel) → let r = passed rs 0 (read_leg a n) new in (k : OutcomeKind) → r.kind ≡ k → let c = carried_on rs r k o in c.outcome.kind ≡ Done → JoinedFrom (by 0 c.devices) (get_or c.outcome.bytes y 0)
+  first_told : (o : Option LegModel) → let r = passed rs 0 (read_leg a n) new in (k : OutcomeKind) → r.kind ≡ k → let c = carried_on rs r k o in c.outcome.kind ≡ Done → JoinedFrom (by (λ o. 0) c.devices) (get_or c.outcome.bytes y 0)
   first_told None Done e g = let r = passed rs 0 (read_leg a n) new in let s = each settled rs r.devices in let z = named_done rs r.kind r.bytes g in
-      subst (λ l. JoinedFrom (by 0 s) (get_or l y 0)) (sym (z.1 ∙ sym (append-nil r.bytes))) (in_first [] s z.0 (no_calls_more ds s))
+      subst (λ l. JoinedFrom (by (λ o. 0) s) (get_or l y 0)) (sym (z.1 ∙ sym (append-nil r.bytes))) (in_first [] s z.0 (no_calls_more ds s))
   first_told (Some w) Done e g = let r = passed rs 0 (read_leg a n) new in let s = each settled rs r.devices in let q = passed rs 1 w s in let z = named_done rs q.kind (r.bytes ++ q.bytes) g in
-      subst (λ l. JoinedFrom (by 0 (each settled rs q.devices)) (get_or l y 0)) (sym z.1) (in_first q.bytes (each settled rs q.devices) e (leg_more w.address ds s (each settled rs q.devices) (leg_noted w.address ds 1 w.body s)))
+      subst (λ l. JoinedFrom (by (λ o. 0) (each settled rs q.devices)) (get_or l y 0)) (sym z.1) (in_first q.bytes (each settled rs q.devices) e (leg_more w.address ds s (each settled rs q.devices) (leg_noted w.address ds 1 w.body s)))
   first_told o (NoAnswer p) e g = let r = passed rs 0 (read_leg a n) new in let z = sym e ∙ (named_done rs r.kind r.bytes g).0 in cc
   first_told o (Refused p) e g = let r = passed rs 0 (read_leg a n) new in let z = sym e ∙ (named_done rs r.kind r.bytes g).0 in cc
 
   second_told : (w : LegModel) → let r = passed rs 0 w new in (k : OutcomeKind) → r.kind ≡ k → let c = carried_on rs r k (Some (read_leg a n)) in c.outcome.kind ≡ Done →
-      JoinedFrom (by (cond (answers_to a w.address) 1 0) c.devices) (get_or c.outcome.bytes (body_reads w.body + y) 0)
+      JoinedFrom (by (λ o. cond (answers_to o w.address) 1 0) c.devices) (get_or c.outcome.bytes (body_reads w.body + y) 0)
   second_told w Done e g = let r = passed rs 0 w new in let q = passed rs 1 (read_leg a n) (each settled rs r.devices) in let z = named_done rs q.kind (r.bytes ++ q.bytes) g in
-      subst (λ l. JoinedFrom (by (cond (answers_to a w.address) 1 0) (each settled rs q.devices)) (get_or l (body_reads w.body + y) 0)) (sym z.1) (in_second w e z.0)
+      subst (λ l. JoinedFrom (by (λ o. cond (answers_to o w.address) 1 0) (each settled rs q.devices)) (get_or l (body_reads w.body + y) 0)) (sym z.1) (in_second w e z.0)
   second_told w (NoAnswer p) e g = let r = passed rs 0 w new in let z = sym e ∙ (named_done rs r.kind r.bytes g).0 in cc
   second_told w (Refused p) e g = let r = passed rs 0 w new in let z = sym e ∙ (named_done rs r.kind r.bytes g).0 in cc
 
 -- of a transfer that is done
 pub reported_alone : (ds : List Behaviour) (t : TransferModel) (d : Bank Placed ds) (k a n y : ℕ) → (carried (all_recorded ds) t (all_unnoted ds d)).outcome.kind ≡ Done → leg_of t k ≡ Some (read_leg a n) → y < n →
-    JoinedFrom (all_at y (handed_over a (called_before t k a) (listed (λ b p. p.address) ds d) (steps_alone ds t d))) (get_or (carried (all_recorded ds) t (all_unnoted ds d)).outcome.bytes (read_before t k + y) 0)
+    JoinedFrom (all_at y (handed_over a (called_before t k) (listed (λ b p. p.address) ds d) (steps_alone ds t d))) (get_or (carried (all_recorded ds) t (all_unnoted ds d)).outcome.bytes (read_before t k + y) 0)
 reported_alone ds t d zero a n y g e h = let z : t.first ≡ read_leg a n = cc in let p : 0 + y ≡ y = omega arith in let rs = all_recorded ds in let new = all_unnoted ds d in
-    subst (λ w. let c = carried rs (record { first = w; second = t.second }) new in c.outcome.kind ≡ Done → JoinedFrom (by ds d a n y h 0 c.devices) (get_or c.outcome.bytes (0 + y) 0))
-    (sym z) (λ f. let c = carried rs (record { first = read_leg a n; second = t.second }) new in subst (λ m. JoinedFrom (by ds d a n y h 0 c.devices) (get_or c.outcome.bytes m 0)) (sym p) (first_told ds d a n y h t.second (passed rs 0 (read_leg a n) new).kind refl f)) g
+    subst (λ w. let c = carried rs (record { first = w; second = t.second }) new in c.outcome.kind ≡ Done → JoinedFrom (by ds d a n y h (λ o. 0) c.devices) (get_or c.outcome.bytes (0 + y) 0))
+    (sym z) (λ f. let c = carried rs (record { first = read_leg a n; second = t.second }) new in subst (λ m. JoinedFrom (by ds d a n y h (λ o. 0) c.devices) (get_or c.outcome.bytes m 0)) (sym p) (first_told ds d a n y h t.second (passed rs 0 (read_leg a n) new).kind refl f)) g
 reported_alone ds t d (suc zero) a n y g e h = let rs = all_recorded ds in let new = all_unnoted ds d in
-    subst (λ o. let c = carried rs (record { first = t.first; second = o }) new in c.outcome.kind ≡ Done → JoinedFrom (by ds d a n y h (cond (answers_to a t.first.address) 1 0) c.devices) (get_or c.outcome.bytes (body_reads t.first.body + y) 0))
+    subst (λ o. let c = carried rs (record { first = t.first; second = o }) new in c.outcome.kind ≡ Done → JoinedFrom (by ds d a n y h (λ o. cond (answers_to o t.first.address) 1 0) c.devices) (get_or c.outcome.bytes (body_reads t.first.body + y) 0))
     (sym e) (λ f. second_told ds d a n y h t.first (passed rs 0 t.first new).kind refl f) g
 reported_alone ds t d (suc (suc k)) a n y g e h = cc

@@ -129,11 +129,11 @@ module _ (hs : List HostBehaviour) (ds : List Behaviour) where
 
     reported : (i : ℕ) (t : TransferModel) (o : OutcomeModel) → Contends hs ds x i t → get_or (told_at hs ds x.bus) i None ≡ Some o → o.kind ≡ Done →
         (k a n : ℕ) → leg_of t k ≡ Some (read_leg a n) → (z : ℕ) → z < n →
-        JoinedFrom (all_at z (handed_over a (called_before t k a) (port_places ds x.bus.ports) (asked_then hs ds x))) (get_or o.bytes (read_before t k + z) 0)
+        JoinedFrom (all_at z (handed_over a (called_before t k) (port_places ds x.bus.ports) (asked_then hs ds x))) (get_or o.bytes (read_before t k + z) 0)
     reported i t o c h done k a n e z f =
         let own : o ≡ (carried es t (all_unnoted ds d)).outcome = tells_own hs ds x.book i t c o (event_at hs ds x.bus) (ap (λ ts. get_or ts i None) (sym lx.tick.tells) ∙ h)
         ∙ (ap (λ q. (carried ds t q).outcome) (sym (bare_unnoted ds d)) ∙ carried_outcome es ds (forgetting ds) t (all_unnoted ds d) (legal i t c)) in
-        let handed = λ (os : List ℕ) (rs : List (List Step)). all_at z (handed_over a (called_before t k a) os rs) in
+        let handed = λ (os : List ℕ) (rs : List (List Step)). all_at z (handed_over a (called_before t k) os rs) in
         let reports = λ (q : OutcomeModel). get_or q.bytes (read_before t k + z) 0 in
         joined_as (handed (device_places ds d) (steps_alone ds t d)) (handed (port_places ds x.bus.ports) (asked_then hs ds x)) (reports (carried es t (all_unnoted ds d)).outcome) (reports o)
         (ap₂ handed (sym s.places) (sym (once i t c o h))) (ap reports (sym own)) (reported_alone ds t d k a n z (ap (λ q. q.kind) (sym own) ∙ done) e f)
