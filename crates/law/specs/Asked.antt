@@ -115,7 +115,8 @@ handed (finish ∷ ss) = handed ss
 abbrev pub called_before : TransferModel → ℕ → ℕ → ℕ
 called_before t k o = cond (nat_lt 0 k && answers_to o t.first.address) 1 0
 
--- the bytes that each port's device handed over in a leg at address a, where a port with address o was called n o times before
+-- the bytes that each port's device handed over in a leg at address a, if a port with address o was called (n o) times before
+-- that leg; none of a port that does not answer to a
 abbrev pub handed_over : ℕ → (ℕ → ℕ) → List ℕ → List (List Step) → List (List ℕ)
 handed_over a n [] rs = []
 handed_over a n (o ∷ os) [] = []

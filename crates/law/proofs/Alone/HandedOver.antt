@@ -165,7 +165,7 @@ module _ (ds : List Behaviour) (d : Bank Placed ds) (a n y : ℕ) (h : y < n) wh
   abbrev new : Bank Placed rs
   new = all_unnoted ds d
 
-  -- what was handed over for the byte, where a port with address o was called c o times before
+  -- what was handed over for the byte, if a port with address o was called (c o) times before
   abbrev by : (ℕ → ℕ) → Bank Placed rs → List ℕ
   by c z = all_at y (handed_over a c (listed (λ b p. p.address) ds d) (all_noted ds z))
 
