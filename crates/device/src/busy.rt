@@ -1,6 +1,6 @@
 // A layer that is busy for some selects after a selection that wrote.
 ghost use Rattle.std.specs.Prelude.{◌≡◌};
-ghost use Rattle.device.specs.BusyLayers.{busied, new_busy, busy_over, BusyWent};
+ghost use Rattle.device.specs.Busy.{busy_model, new_busy, busy_over, BusyStepsTo};
 
 use crate::device::Device;
 use crate::selection::Selection;
@@ -18,7 +18,7 @@ pub struct Busy<D> {
 
 impl<D: Device> Busy<D> {
     pub fn new(number: u8, device: D) -> Busy<D>
-        ensures made { busied D.Device.behaviour D.Device.means result ≡ new_busy D.Device.behaviour number (D.Device.means device) }
+        ensures made { busy_model D.Device.behaviour D.Device.means result ≡ new_busy D.Device.behaviour number (D.Device.means device) }
         ensures same { result.device ≡ device }
     {
         Busy {
@@ -31,14 +31,14 @@ impl<D: Device> Busy<D> {
 
     /// How many selects it refuses after a selection that wrote.
     pub fn number(&self) -> u8
-        ensures { result ≡ (busied D.Device.behaviour D.Device.means self.now).number }
+        ensures { result ≡ (busy_model D.Device.behaviour D.Device.means self.now).number }
     {
         self.number
     }
 
     /// How many selects it still refuses, from 0 to its number.
     pub fn left(&self) -> u8
-        ensures { result ≡ (busied D.Device.behaviour D.Device.means self.now).left }
+        ensures { result ≡ (busy_model D.Device.behaviour D.Device.means self.now).left }
     {
         self.left
     }
@@ -67,9 +67,9 @@ impl<D: Device> Busy<D> {
 impl<D: Device> Device for Busy<D> {
     ghost behaviour = { busy_over D.Device.behaviour };
 
-    ghost means = { busied D.Device.behaviour D.Device.means };
+    ghost means = { busy_model D.Device.behaviour D.Device.means };
 
-    ghost went = { BusyWent D.Device.went };
+    ghost went = { BusyStepsTo D.Device.went };
 
     ghost held = { λ x h z. D.Device.held x.device h z.device };
 

@@ -1,7 +1,6 @@
 // The trait of every device: four steps, and the question how long to hold the clock.
 ghost use Rattle.std.specs.Prelude.{◌≡◌, ℕ};
-ghost use Rattle.device.specs.Behaviours.{Behaviour};
-ghost use Rattle.device.specs.Steps.{Step, select, put, take, finish};
+ghost use Rattle.device.specs.Device.{Behaviour, Step, select, put, take, finish};
 
 use transfer::Direction;
 

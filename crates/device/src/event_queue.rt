@@ -1,11 +1,11 @@
 // A queue of up to 8 bytes, each read once.
 ghost use Rattle.std.specs.Prelude.{◌≡◌, []};
-ghost use Rattle.fifo.specs.Fifos.{filled};
-ghost use Rattle.transfer.specs.Refusals.{answer};
-ghost use Rattle.device.specs.EventQueues.{queued, event_queue};
+ghost use Rattle.transfer.specs.Fifo.{fifo_after_fill};
+ghost use Rattle.transfer.specs.Refusal.{answer};
+ghost use Rattle.device.specs.EventQueue.{queue_model, event_queue};
 
 use crate::device::Device;
-use fifo::Fifo;
+use transfer::Fifo;
 use transfer::{Direction, Refusal};
 
 #[derive(Drop)]
@@ -16,7 +16,7 @@ pub struct EventQueue {
 impl EventQueue {
     // An empty queue.
     pub fn new() -> EventQueue
-        ensures { queued result ≡ [] }
+        ensures { queue_model result ≡ [] }
     {
         EventQueue {
             bytes: Fifo::new(0),
@@ -25,14 +25,14 @@ impl EventQueue {
 
     // Starts anew with these bytes, the first the oldest. Too many are refused, and change nothing.
     pub fn fill(&mut self, bytes: &[u8]) -> Result<(), Refusal>
-        ensures { (answer (λ u. u) result, queued self.new) ≡ filled bytes.now (queued self.old) }
+        ensures { (answer (λ u. u) result, queue_model self.new) ≡ fifo_after_fill bytes.now (queue_model self.old) }
     {
         self.bytes.fill(bytes)
     }
 
     /// The bytes that are still to be read, the oldest first.
     pub fn left(&self) -> &[u8]
-        ensures { result.now ≡ queued self.now }
+        ensures { result.now ≡ queue_model self.now }
     {
         self.bytes.left()
     }
@@ -41,7 +41,7 @@ impl EventQueue {
 impl Device for EventQueue {
     ghost behaviour = { event_queue };
 
-    ghost means = { queued };
+    ghost means = { queue_model };
 
     fn select(&mut self, direction: Direction) -> bool {
         direction == Direction::Read && self.bytes.first().is_some()

@@ -1,6 +1,6 @@
 // Where a device is in a selection, which lasts from a select that got yes to the next finish.
 ghost use Rattle.std.specs.Prelude.{◌≡◌};
-ghost use Rattle.device.specs.Selections.{after_select, after_put, is_written};
+ghost use Rattle.device.specs.Selection.{selection_after_select, selection_after_put, is_written};
 
 #[derive(Clone, Copy, PartialEq, Eq, Debug)]
 pub enum Selection {
@@ -13,7 +13,7 @@ pub enum Selection {
 impl Selection {
     // After a select with this answer.
     pub(crate) fn after_select(self, yes: bool) -> Selection
-        ensures { result ≡ after_select self yes }
+        ensures { result ≡ selection_after_select self yes }
     {
         match (self, yes) {
             (Selection::Closed, true) => Selection::Open,
@@ -23,7 +23,7 @@ impl Selection {
 
     // After a put with this answer.
     pub(crate) fn after_put(self, yes: bool) -> Selection
-        ensures { result ≡ after_put self yes }
+        ensures { result ≡ selection_after_put self yes }
     {
         match (self, yes) {
             (Selection::Open, true) => Selection::Written,

@@ -1,6 +1,6 @@
 // A layer that holds the clock for at least its own number of ticks.
 ghost use Rattle.std.specs.Prelude.{◌≡◌};
-ghost use Rattle.device.specs.SlowLayers.{slow_over, slowed, SlowWent, SlowHeld};
+ghost use Rattle.device.specs.Slow.{slow_over, slow_model, SlowStepsTo, SlowHoldsTo};
 
 use crate::device::Device;
 use transfer::Direction;
@@ -20,7 +20,7 @@ impl<D: Device> Slow<D> {
 
     /// For how many ticks it holds the clock at least.
     pub fn number(&self) -> u8
-        ensures { result ≡ (slowed D.Device.behaviour D.Device.means self.now).number }
+        ensures { result ≡ (slow_model D.Device.behaviour D.Device.means self.now).number }
     {
         self.number
     }
@@ -44,11 +44,11 @@ impl<D: Device> Slow<D> {
 impl<D: Device> Device for Slow<D> {
     ghost behaviour = { slow_over D.Device.behaviour };
 
-    ghost means = { slowed D.Device.behaviour D.Device.means };
+    ghost means = { slow_model D.Device.behaviour D.Device.means };
 
-    ghost went = { SlowWent D.Device.went };
+    ghost went = { SlowStepsTo D.Device.went };
 
-    ghost held = { SlowHeld D.Device.held };
+    ghost held = { SlowHoldsTo D.Device.held };
 
     fn select(&mut self, direction: Direction) -> bool {
         self.device.select(direction)

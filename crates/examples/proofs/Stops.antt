@@ -1,12 +1,12 @@
 -- One tick more on the way to the first stop.
 use Rattle.std.proofs.Common.{◌≡◌, ℕ, suc, true, false, None, Some, refl, sym, ap, ◌∙◌}
 use Rattle.law.specs.declared.tick.Tick.{Tick}
-use Rattle.law.specs.Buses.{BusModel, no_holds, tick_at}
+use Rattle.law.specs.Bus.{BusModel, no_holds, tick_at}
 use Rattle.law.specs.Limits.{most_ticks_of_turn}
-use Rattle.parts.specs.Arms.{all_armed}
-use Rattle.wire.specs.declared.wire.Event.{Event}
-use Rattle.wire.specs.declared.wire.Event.TheVariants.{Rise, Fall, Start, Stop, SteadyHigh, SteadyLow}
-use Rattle.examples.specs.Runs.{two_hosts, one_file, is_stop, stop_within, first_stop}
+use Rattle.support.specs.ArmAll.{all_armed}
+use Rattle.wire.specs.declared.event.Event.{Event}
+use Rattle.wire.specs.declared.event.Event.TheVariants.{Rise, Fall, Start, Stop, SteadyHigh, SteadyLow}
+use Rattle.examples.specs.Run.{two_hosts, one_file, is_stop, stop_within, first_stop}
 
 module _ (k : ℕ) (u x : BusModel two_hosts one_file) (t : Tick) (ticks : (t, x) ≡ tick_at two_hosts one_file u (no_holds one_file)) where
   pub stops_here : is_stop t.event ≡ true → stop_within (suc k) u ≡ Some t

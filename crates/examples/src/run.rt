@@ -1,17 +1,16 @@
 // Ticks each example to its first stop, and prints who was told there.
 ghost use Rattle.std.specs.Prelude.{◌≡◌, ℕ, ◌+◌, ◌≤◌, ◌++◌, List, length};
 ghost use Rattle.std.specs.List.{flat_map};
-ghost use Rattle.exchange.specs.Parts.{bus_model};
-ghost use Rattle.printing.specs.Outputs.{Puts};
-ghost use Rattle.examples.specs.Runs.{first_stop, told_at, clocks_text, example_line, Examples, Joined};
+ghost use Rattle.exchange.specs.Bus.{bus_model};
+ghost use Rattle.support.specs.Output.{Puts};
+ghost use Rattle.examples.specs.Run.{first_stop, told_at, clocks_text, example_line, Examples, Joined};
 
 use crate::setup::{all_clocks, queue_bus};
 use exchange::{End, Event, Mark, Tick};
 use host::ListHost;
 use law::restart_over_one;
 use listing::push_numbers;
-use parts::{Clocks, PairBus, arm_all, list_of, pair_bus, ticks_of_turns};
-use printing::Output;
+use support::{Clocks, Output, PairBus, arm_all, list_of, pair_bus, ticks_of_turns};
 use std::io;
 use text::{ArrayString, Decimal};
 use transfer::{Address, Transfer};

@@ -1,13 +1,13 @@
 // The clocks of the examples, and the bus of two queues.
 ghost use Rattle.std.specs.Prelude.{◌≡◌, map};
-ghost use Rattle.exchange.specs.Parts.{bus_model};
-ghost use Rattle.examples.specs.Setups.{counts, all_counts, IsQueues};
+ghost use Rattle.exchange.specs.Bus.{bus_model};
+ghost use Rattle.examples.specs.Setup.{counts, all_counts, IsQueues};
 
 use device::EventQueue;
 use exchange::{Bus, End};
 use host::ListHost;
 use master::Master;
-use parts::{Clocks, list_of, queue_of};
+use support::{Clocks, list_of, queue_of};
 use port::Port;
 use transfer::{Address, ClockPair, Transfer};
 

@@ -1,14 +1,13 @@
 // Banks of masters and of ports: one part and the rest, so that parts of any makes stand side by side.
 ghost use Rattle.std.specs.Prelude.{◌≡◌, List, [], ◌∷◌};
-ghost use Rattle.device.specs.Behaviours.{Behaviour};
-ghost use Rattle.host.specs.Behaviours.{HostBehaviour};
-ghost use Rattle.transfer.specs.Refusals.{answer};
-ghost use Rattle.law.specs.Banks.{any_true, Bank, each, listed};
-ghost use Rattle.law.specs.Buses.{all_pulls, arm_nth, over, Holds, AllMayAnswer, ports_step};
-ghost use Rattle.master.specs.Serving.{Served, SameHost, served_pulls, served_armed, served_new, served_step, served_mark, served};
-ghost use Rattle.port.specs.Asks.{PortAsked};
-ghost use Rattle.port.specs.Ports.{SameDevice, port_new, PortModel, port_model, port_pulls};
-ghost use Rattle.law.specs.Laws.{Clocked};
+ghost use Rattle.device.specs.Device.{Behaviour};
+ghost use Rattle.host.specs.Host.{HostBehaviour};
+ghost use Rattle.transfer.specs.Refusal.{answer};
+ghost use Rattle.law.specs.Bank.{any_true, Bank, bank_map, bank_list};
+ghost use Rattle.law.specs.Bus.{all_pulls, arm_master_at, marks_over, HoldAnswers, AllMayAnswer, ports_step};
+ghost use Rattle.master.specs.Master.{HostedMaster, SameHost, hosted_pulls, hosted_is_armed, hosted_new, hosted_step, hosted_mark, hosted_master};
+ghost use Rattle.port.specs.Port.{PortAsked, SameDevice, reset_port, PortModel, port_model, port_pulls};
+ghost use Rattle.law.specs.Law.{ClocksInRange};
 ghost use Rattle.wire.specs.declared.wire.Signal.{Signal};
 ghost use Rattle.std.proofs.Common.{rules};
 
@@ -26,33 +25,33 @@ pub struct End;
 pub trait Masters {
     ghost hosts: { List HostBehaviour };
 
-    ghost stand: { Self → Bank Served hosts };
+    ghost stand: { Self → Bank HostedMaster hosts };
 
     // One bank has the very hosts of another.
     ghost same_hosts: { Self → Self → Type 0 };
 
     fn pulls(&self) -> Pulls
-        ensures { result ≡ all_pulls (listed served_pulls hosts (stand self.now)) };
+        ensures { result ≡ all_pulls (bank_list hosted_pulls hosts (stand self.now)) };
 
     fn any_armed(&self) -> bool
-        ensures { result ≡ any_true (listed served_armed hosts (stand self.now)) };
+        ensures { result ≡ any_true (bank_list hosted_is_armed hosts (stand self.now)) };
 
     // As at the making: no master is armed or pulls.
     fn reset(&mut self)
         ensures same { same_hosts self.old self.new }
-        ensures after { stand self.new ≡ each served_new hosts (stand self.old) };
+        ensures after { stand self.new ≡ bank_map hosted_new hosts (stand self.old) };
 
     fn arm(&mut self, master: usize) -> Result<(), Refusal>
         ensures same { same_hosts self.old self.new }
-        ensures after { (answer (λ u. u) result, stand self.new) ≡ arm_nth hosts (stand self.old) master };
+        ensures after { (answer (λ u. u) result, stand self.new) ≡ arm_master_at hosts (stand self.old) master };
 
     // Steps every master, and writes its mark to its place, as far as there are places.
     fn step(&mut self, signal: Signal, marks: &mut [Mark])
-        ensures after { stand self.new ≡ each (λ h. served_step h signal) hosts (stand self.old) }
-        ensures marks { marks.new ≡ over (listed (λ h. served_mark h signal) hosts (stand self.old)) marks.old };
+        ensures after { stand self.new ≡ bank_map (λ h. hosted_step h signal) hosts (stand self.old) }
+        ensures marks { marks.new ≡ marks_over (bank_list (λ h. hosted_mark h signal) hosts (stand self.old)) marks.old };
 
     // a clock pair has counts from 1 to 255
-    ghost clocked: { (x : Self) → Clocked hosts (stand x) };
+    ghost clocked: { (x : Self) → ClocksInRange hosts (stand x) };
 
     // a bank that is left alone keeps its hosts
     ghost own_hosts: { (x : Self) → same_hosts x x };
@@ -69,18 +68,18 @@ pub trait Ports {
     ghost same_devices: { Self → Self → Type 0 };
 
     // What a tick asks of each device, where hold answers so: by these calls it went from one value to the other.
-    ghost asked: { Self → Signal → Holds devices → Self → Type 0 };
+    ghost asked: { Self → Signal → HoldAnswers devices → Self → Type 0 };
 
     fn pulls(&self) -> Pulls
-        ensures { result ≡ all_pulls (listed port_pulls devices (stand self.now)) };
+        ensures { result ≡ all_pulls (bank_list port_pulls devices (stand self.now)) };
 
     // As at the making: every port is out, and no device is owed a finish.
     fn reset(&mut self)
         ensures same { same_devices self.old self.new }
-        ensures after { stand self.new ≡ each port_new devices (stand self.old) };
+        ensures after { stand self.new ≡ bank_map reset_port devices (stand self.old) };
 
     fn step(&mut self, signal: Signal)
-        ensures { (h : Holds devices) × AllMayAnswer devices (stand self.old) signal h × (stand self.new ≡ ports_step devices (stand self.old) signal h) × asked self.old signal h self.new };
+        ensures { (h : HoldAnswers devices) × AllMayAnswer devices (stand self.old) signal h × (stand self.new ≡ ports_step devices (stand self.old) signal h) × asked self.old signal h self.new };
 }
 
 impl Masters for End {
@@ -132,7 +131,7 @@ impl Ports for End {
 impl<H: Host, B: Masters> Masters for (Master<H>, B) {
     ghost hosts = { H.Host.behaviour ∷ B.Masters.hosts };
 
-    ghost stand = { λ p. (served H.Host p.0, B.Masters.stand p.1) };
+    ghost stand = { λ p. (hosted_master H.Host p.0, B.Masters.stand p.1) };
 
     ghost same_hosts = { λ p q. SameHost p.0 q.0 × B.Masters.same_hosts p.1 q.1 };
 

@@ -1,14 +1,14 @@
 -- The head has one run: each of its devices may always give one answer to hold, and no other.
 use Rattle.std.proofs.Common.{◌≡◌, ℕ, List, max, refl, sym, ap, ◌∙◌, arith}
-use Rattle.device.specs.EventQueues.{event_queue}
-use Rattle.device.specs.SlowLayers.{slow_over}
-use Rattle.law.specs.Buses.{BusModel, Holds, Answered, tick_at}
-use Rattle.printing.proofs.Kept.{kept_on}
-use Rattle.printing.proofs.OneText.{only_run}
-use Rattle.printing.proofs.SomeRun.{some_run}
-use Rattle.printing.specs.Runs.{OneHold, Listened, OnlyRun}
-use Rattle.head.specs.Runs.{most_ticks}
-use Rattle.head.specs.Setups.{head_hosts, head_devices, IsHead}
+use Rattle.device.specs.EventQueue.{event_queue}
+use Rattle.device.specs.Slow.{slow_over}
+use Rattle.law.specs.Bus.{BusModel, HoldAnswers, Answered, tick_at}
+use Rattle.support.proofs.Kept.{kept_on}
+use Rattle.support.proofs.OneText.{only_run}
+use Rattle.support.proofs.SomeRun.{some_run}
+use Rattle.support.specs.PrintedRun.{OneHold, Listened, OnlyRun}
+use Rattle.head.specs.Run.{most_ticks}
+use Rattle.head.specs.Setup.{head_hosts, head_devices, IsHead}
 
 pub one_hold : OneHold head_devices
 one_hold = (
@@ -20,11 +20,11 @@ one_hold = (
 abbrev HoldsFive : BusModel head_hosts head_devices → Type 0
 HoldsFive u = u.ports.1.0.meaning.number ≡ 5
 
-still_five : (u : BusModel head_hosts head_devices) (h : Holds head_devices) → HoldsFive u → HoldsFive (tick_at head_hosts head_devices u h).1
+still_five : (u : BusModel head_hosts head_devices) (h : HoldAnswers head_devices) → HoldsFive u → HoldsFive (tick_at head_hosts head_devices u h).1
 still_five u h five =
     kept_on (slow_over event_queue) (λ m. m.number ≡ 5) (λ m d e. e) (λ m x e. e) (λ m e. e) (λ m e. e) u.ports.1.0 five h.1.0.0 _ _
 
-abbrev answers : Holds head_devices
+abbrev answers : HoldAnswers head_devices
 answers = ((0, omega arith), ((5, omega arith), ((0, omega arith), tt)))
 
 may_answer : (u : BusModel head_hosts head_devices) → HoldsFive u → Answered head_hosts head_devices u answers

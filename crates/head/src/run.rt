@@ -1,14 +1,13 @@
 // Runs the bus until nobody wants anything any more, and prints what each tick shows and what came of it.
 ghost use Rattle.std.specs.Prelude.{◌≡◌, ℕ, ◌+◌, ◌≤◌, ◌++◌, Option, length};
 ghost use Rattle.std.specs.Option.{option_map};
-ghost use Rattle.exchange.specs.Parts.{bus_model};
-ghost use Rattle.transfer.specs.Outcomes.{outcome_model};
-ghost use Rattle.head.specs.Runs.{told_line, registers_line, end_text, PrintsHead};
+ghost use Rattle.exchange.specs.Bus.{bus_model};
+ghost use Rattle.transfer.specs.Outcome.{outcome_model};
+ghost use Rattle.head.specs.Run.{told_line, registers_line, end_text, PrintsHead};
 
 use crate::setup::{HeadBus, head_bus};
 use exchange::End;
-use parts::ticks_of_turns;
-use printing::{Output, print_run};
+use support::{Output, print_run, ticks_of_turns};
 use std::io;
 use text::{ArrayString, Decimal, push_bytes};
 use transfer::Outcome;

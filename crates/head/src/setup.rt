@@ -1,16 +1,16 @@
 // The bus of the sensor head: a logger, an alarm unit and a service port, and the three devices that they share.
 ghost use Rattle.std.specs.Prelude.{◌≡◌};
-ghost use Rattle.device.specs.EventQueues.{event_queue, queued};
-ghost use Rattle.device.specs.SlowLayers.{slowed};
-ghost use Rattle.exchange.specs.Parts.{bus_model};
-ghost use Rattle.master.specs.Serving.{served};
-ghost use Rattle.head.specs.Setups.{log_write, log_read, event_read, service_write, probe_write, slow_queue, ListsAt, PollsAt, IsHead};
+ghost use Rattle.device.specs.EventQueue.{event_queue, queue_model};
+ghost use Rattle.device.specs.Slow.{slow_model};
+ghost use Rattle.exchange.specs.Bus.{bus_model};
+ghost use Rattle.master.specs.Master.{hosted_master};
+ghost use Rattle.head.specs.Setup.{log_write, log_read, event_read, service_write, probe_write, slow_queue, ListsAt, PollsAt, IsHead};
 
 use device::{Busy, EventQueue, RegisterFile, Slow};
 use exchange::{Bus, End};
 use host::{Host, ListHost, PollHost};
 use master::Master;
-use parts::{list_of, queue_of};
+use support::{list_of, queue_of};
 use port::Port;
 use transfer::{Address, ClockPair, Transfer};
 
@@ -37,7 +37,7 @@ const NOBODY: u32 = 0x22;
 // Apart from the service port: what each sends is the point of the program, and one function would take all of it as
 // arguments.
 fn logger() -> Master<ListHost>
-    ensures { ListsAt 2 2 log_write log_read (served ⟦<ListHost as Host>⟧ result) }
+    ensures { ListsAt 2 2 log_write log_read (hosted_master ⟦<ListHost as Host>⟧ result) }
 {
     let clock = ClockPair::new(2, 2).unwrap();
     let registers = Address::new(REGISTERS).unwrap();
@@ -48,7 +48,7 @@ fn logger() -> Master<ListHost>
 
 // It polls until an event has its highest bit set.
 fn alarm_unit() -> Master<PollHost>
-    ensures { PollsAt 1 3 event_read (served ⟦<PollHost as Host>⟧ result) }
+    ensures { PollsAt 1 3 event_read (hosted_master ⟦<PollHost as Host>⟧ result) }
 {
     let clock = ClockPair::new(1, 3).unwrap();
     let read = Transfer::read(Address::new(EVENTS).unwrap(), 1).unwrap();
@@ -56,7 +56,7 @@ fn alarm_unit() -> Master<PollHost>
 }
 
 fn service_port() -> Master<ListHost>
-    ensures { ListsAt 3 1 service_write probe_write (served ⟦<ListHost as Host>⟧ result) }
+    ensures { ListsAt 3 1 service_write probe_write (hosted_master ⟦<ListHost as Host>⟧ result) }
 {
     let clock = ClockPair::new(3, 1).unwrap();
     let write = Transfer::write(Address::new(REGISTERS).unwrap(), &[0x03, 0x7F]).unwrap();
@@ -66,7 +66,7 @@ fn service_port() -> Master<ListHost>
 
 // It holds the clock for 5 ticks.
 fn slow_events() -> Slow<EventQueue>
-    ensures { slowed event_queue queued result ≡ slow_queue }
+    ensures { slow_model event_queue queue_model result ≡ slow_queue }
 {
     Slow::new(5, queue_of(&[0x91, 0x85]).unwrap())
 }

@@ -1,7 +1,7 @@
 // The trait of every host: what it wants sent, and what it is told of it.
 ghost use Rattle.std.specs.Prelude.{◌≡◌};
-ghost use Rattle.host.specs.Behaviours.{HostBehaviour, wanted};
-ghost use Rattle.transfer.specs.Outcomes.{outcome_model};
+ghost use Rattle.host.specs.Host.{HostBehaviour, wanted_transfer};
+ghost use Rattle.transfer.specs.Outcome.{outcome_model};
 
 use transfer::{Outcome, Transfer};
 
@@ -13,7 +13,7 @@ pub trait Host {
     // Whether it wants a transfer, and which; beside a `false` the transfer says nothing. A flag and no `Option`, so that a
     // make which keeps its transfer, as the poll host, answers both as they stand, without cases.
     fn want(&self) -> (bool, Transfer)
-        ensures { wanted result ≡ behaviour.want (means self.now) };
+        ensures { wanted_transfer result ≡ behaviour.want (means self.now) };
 
     fn told(&mut self, outcome: &Outcome)
         ensures { means self.new ≡ behaviour.told (means self.old) (outcome_model outcome.now) };

@@ -1,12 +1,12 @@
 // A host with a list of up to 8 transfers.
 ghost use Rattle.std.specs.Prelude.{◌≡◌, [], None};
 ghost use Rattle.std.specs.Option.{option_map};
-ghost use Rattle.transfer.specs.Outcomes.{outcome_model};
-ghost use Rattle.transfer.specs.Refusals.{answer};
-ghost use Rattle.host.specs.ListHosts.{listed, refilled, list_host};
+ghost use Rattle.transfer.specs.Outcome.{outcome_model};
+ghost use Rattle.transfer.specs.Refusal.{answer};
+ghost use Rattle.host.specs.ListHost.{list_host_model, list_host_after_fill, list_host};
 
 use crate::host::Host;
-use fifo::Fifo;
+use transfer::Fifo;
 use transfer::{Outcome, Refusal, Transfer};
 
 #[derive(Drop)]
@@ -18,7 +18,7 @@ pub struct ListHost {
 impl ListHost {
     // An empty list.
     pub fn new() -> ListHost
-        ensures { listed result ≡ record { rest = []; last = None } }
+        ensures { list_host_model result ≡ record { rest = []; last = None } }
     {
         ListHost {
             transfers: Fifo::new(Transfer::filler()),
@@ -28,7 +28,7 @@ impl ListHost {
 
     // Starts a new list, with no outcome yet. One that is too long is refused, and changes nothing.
     pub fn fill(&mut self, transfers: &[Transfer]) -> Result<(), Refusal>
-        ensures { (answer (λ u. u) result, listed self.new) ≡ refilled transfers.now (listed self.old) }
+        ensures { (answer (λ u. u) result, list_host_model self.new) ≡ list_host_after_fill transfers.now (list_host_model self.old) }
     {
         self.transfers.fill(transfers)?;
         self.last = None;
@@ -37,14 +37,14 @@ impl ListHost {
 
     /// The transfers that are still to come, the one at its place first.
     pub fn left(&self) -> &[Transfer]
-        ensures { result.now ≡ (listed self.now).rest }
+        ensures { result.now ≡ (list_host_model self.now).rest }
     {
         self.transfers.left()
     }
 
     // Each make has its own: a trait for it would be longer than this.
     pub fn last(&self) -> Option<Outcome>
-        ensures { option_map outcome_model result ≡ (listed self.now).last }
+        ensures { option_map outcome_model result ≡ (list_host_model self.now).last }
     {
         self.last
     }
@@ -53,7 +53,7 @@ impl ListHost {
 impl Host for ListHost {
     ghost behaviour = { list_host };
 
-    ghost means = { listed };
+    ghost means = { list_host_model };
 
     fn want(&self) -> (bool, Transfer) {
         match self.transfers.first() {

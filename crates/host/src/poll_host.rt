@@ -1,8 +1,8 @@
 // A host that repeats one transfer until the last byte read meets a mask.
 ghost use Rattle.std.specs.Prelude.{◌≡◌, false, None};
 ghost use Rattle.std.specs.Option.{option_map};
-ghost use Rattle.transfer.specs.Outcomes.{outcome_model};
-ghost use Rattle.host.specs.PollHosts.{polled, is_met, poll_host};
+ghost use Rattle.transfer.specs.Outcome.{outcome_model};
+ghost use Rattle.host.specs.PollHost.{poll_host_model, is_met, poll_host};
 
 use crate::host::Host;
 use transfer::{Outcome, OutcomeKind, Transfer};
@@ -18,7 +18,7 @@ pub struct PollHost {
 
 impl PollHost {
     pub fn new(transfer: Transfer, mask: u8) -> PollHost
-        ensures { polled result ≡ record { transfer = transfer; mask = mask; met = false; last = None } }
+        ensures { poll_host_model result ≡ record { transfer = transfer; mask = mask; met = false; last = None } }
     {
         PollHost {
             transfer,
@@ -30,28 +30,28 @@ impl PollHost {
 
     /// The transfer that it repeats, also once the mask is met.
     pub fn transfer(&self) -> Transfer
-        ensures { result ≡ (polled self.now).transfer }
+        ensures { result ≡ (poll_host_model self.now).transfer }
     {
         self.transfer
     }
 
     /// A 1 for each bit of which one has to be 1 in the last byte read.
     pub fn mask(&self) -> u8
-        ensures { result ≡ (polled self.now).mask }
+        ensures { result ≡ (poll_host_model self.now).mask }
     {
         self.mask
     }
 
     /// Whether the mask was met, so that nothing is wanted any more.
     pub fn is_met(&self) -> bool
-        ensures { result ≡ (polled self.now).met }
+        ensures { result ≡ (poll_host_model self.now).met }
     {
         self.met
     }
 
     // Each make has its own: a trait for it would be longer than this.
     pub fn last(&self) -> Option<Outcome>
-        ensures { option_map outcome_model result ≡ (polled self.now).last }
+        ensures { option_map outcome_model result ≡ (poll_host_model self.now).last }
     {
         self.last
     }
@@ -67,7 +67,7 @@ impl PollHost {
 impl Host for PollHost {
     ghost behaviour = { poll_host };
 
-    ghost means = { polled };
+    ghost means = { poll_host_model };
 
     fn want(&self) -> (bool, Transfer) {
         (!self.met, self.transfer)

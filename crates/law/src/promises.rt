@@ -1,6 +1,6 @@
 // What is proved of the definitions, each on the contract of a function.
 ghost use Rattle.std.specs.Prelude.{◌≡◌, Ok, [], ◌∷◌};
-ghost use Rattle.law.specs.Examples.{WorkedExamples, Exhibits, write, write_read, pointed_at};
+ghost use Rattle.law.specs.WorkedExamples.{WorkedExamples, Exhibits, write_of, write_then_read_of, registers_at};
 
 use transfer::{Address, Draft, Refusal, Transfer};
 
@@ -11,7 +11,7 @@ pub fn worked_examples()
 
 // The transfers of the example in which a repeated start wins over a 1, made by the calls of a draft.
 pub fn restart_over_one() -> Result<(Transfer, Transfer), Refusal>
-    ensures { (f : Transfer) × (g : Transfer) × (result ≡ Ok (f, g)) × Exhibits (write_read (3 ∷ []) 1) (write (3 ∷ 128 ∷ [])) (0 ∷ []) (pointed_at 4) f g }
+    ensures { (f : Transfer) × (g : Transfer) × (result ≡ Ok (f, g)) × Exhibits (write_then_read_of (3 ∷ []) 1) (write_of (3 ∷ 128 ∷ [])) (0 ∷ []) (registers_at 4) f g }
 {
     let registers = Address::new(0x50)?;
     let mut restarted = Draft::new(registers);

@@ -10,7 +10,7 @@ use Rattle.master.specs.contracts.mark.Mark.{the_type}
 use Rattle.master.specs.declared.mark.Mark.{Mark}
 use Rattle.master.specs.declared.mark.Mark.TheVariants.{Quiet, Told, Lost}
 use Rattle.text.specs.Digits.{digit_code}
-use Rattle.listing.specs.Lines.{numbers, is_mark}
+use Rattle.listing.specs.Marks.{numbers, is_mark}
 
 -- a number below 10 is one digit
 pub digit : (n : ℕ) → n < 10 → decimal n ≡ digit_code n ∷ []

@@ -1,6 +1,6 @@
 // The state of a listing: how many ticks it has seen, and the bytes of the wire.
 ghost use Rattle.std.specs.Prelude.{◌≡◌};
-ghost use Rattle.listing.specs.Listings.{new_listing, listing_step};
+ghost use Rattle.listing.specs.Listing.{new_listing, listing_step};
 
 use crate::marks::Marks;
 use law::Tick;

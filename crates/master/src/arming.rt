@@ -1,6 +1,6 @@
 // Whether a master is armed, and with what.
 ghost use Rattle.std.specs.Prelude.{◌≡◌};
-ghost use Rattle.master.specs.Armings.{is_armed};
+ghost use Rattle.master.specs.Arming.{is_armed};
 
 /// A master that is armed stays so until its host is told an outcome or the master is reset, also while it contends and
 /// once it has lost.

@@ -1,7 +1,7 @@
 // Where a contender is in its transfer.
 ghost use Rattle.std.specs.Prelude.{◌≤◌};
-ghost use Rattle.transfer.specs.Legs.{body_model, body_size};
-ghost use Rattle.master.specs.Rooms.{most_read};
+ghost use Rattle.transfer.specs.Leg.{body_model, body_size};
+ghost use Rattle.master.specs.CursorBounds.{most_read_at};
 
 use transfer::{Leg, OutcomeKind, ReadBytes};
 use wire::Partial;
@@ -36,5 +36,5 @@ pub struct Cursor {
     read: ReadBytes,
     kind: OutcomeKind,
     ghost in_leg: { byte ≤ body_size (body_model leg.body) },
-    ghost room: { read.len ≤ most_read at rest byte },
+    ghost room: { read.len ≤ most_read_at at rest byte },
 }

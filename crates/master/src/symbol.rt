@@ -1,6 +1,6 @@
 // What a contender shows between a fall and the next.
 ghost use Rattle.std.specs.Prelude.{◌≡◌};
-ghost use Rattle.master.specs.Symbols.{bit_symbol, pulls_sda};
+ghost use Rattle.master.specs.Symbol.{bit_symbol, pulls_sda};
 
 #[derive(Clone, Copy, PartialEq, Eq, Debug)]
 pub enum Symbol {

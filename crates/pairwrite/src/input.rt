@@ -2,7 +2,7 @@
 ghost use Rattle.std.specs.Prelude.{ℕ, Option, IfOk, IfErr};
 ghost use Rattle.std.specs.Io.KnownBytes.{Keeps};
 ghost use Rattle.std.specs.declared.io.Error.{Error as Failure};
-ghost use Rattle.pairwrite.specs.Inputs.{Gives};
+ghost use Rattle.pairwrite.specs.Input.{Gives};
 
 use std::io::{self, ErrorKind, Read};
 

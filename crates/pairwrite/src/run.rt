@@ -1,12 +1,11 @@
 // Reads a byte for each of two masters, and prints the listing of their bus until it is at rest.
 ghost use Rattle.std.specs.Prelude.{◌≡◌, ℕ, List, IfOk, IfErr};
-ghost use Rattle.pairwrite.specs.Inputs.{Reads, FailsToRead, first_two};
-ghost use Rattle.pairwrite.specs.Runs.{PrintsInput};
+ghost use Rattle.pairwrite.specs.Input.{Reads, FailsToRead, first_two};
+ghost use Rattle.pairwrite.specs.Run.{PrintsInput};
 
 use crate::input::Input;
 use crate::setup::bus_of;
-use parts::ticks_of_turns;
-use printing::{Output, print_run};
+use support::{Output, print_run, ticks_of_turns};
 use std::io;
 
 const MASTERS: usize = 2;

@@ -1,6 +1,6 @@
 // A number in decimal.
 ghost use Rattle.std.specs.Prelude.{◌≡◌, ℕ, ◌+◌, ◌≤◌, ◌++◌, List, Some, length, decimal};
-ghost use Rattle.text.specs.Decimals.{IsDecimal};
+ghost use Rattle.text.specs.Decimal.{IsDecimal};
 
 use arrayvec::ArrayString;
 use itoa::Buffer;

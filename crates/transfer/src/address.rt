@@ -1,7 +1,7 @@
 // A seven-bit address that a port or a leg may have.
 ghost use Rattle.std.specs.Prelude.{◌≡◌, ◌≤◌};
-ghost use Rattle.transfer.specs.Refusals.{answer};
-ghost use Rattle.transfer.specs.Addresses.{checked_address, answers_to};
+ghost use Rattle.transfer.specs.Refusal.{answer};
+ghost use Rattle.transfer.specs.Address.{checked_address, answers_to};
 ghost use Rattle.transfer.specs.Limits.{least_address, most_address};
 
 use crate::refusal::Refusal;

@@ -1,6 +1,6 @@
 // Up to N bytes in a place of fixed size: what a leg writes, or what was read.
 ghost use Rattle.std.specs.Prelude.{◌≡◌, ◌≤◌, length};
-ghost use Rattle.transfer.specs.Octets.{Octets};
+ghost use Rattle.transfer.specs.Octets.{IsOctets};
 
 mod calls;
 mod traits;
@@ -13,7 +13,7 @@ pub struct Bytes<const N: usize> {
     pub len: usize,
     ghost fits: { len ≤ N },
     ghost room: { length bytes ≡ N },
-    ghost octets: { Octets bytes },
+    ghost octets: { IsOctets bytes },
 }
 
 /// How many bytes a leg writes or reads at most. It may write none, and reads at least one.

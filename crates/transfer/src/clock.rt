@@ -1,7 +1,7 @@
 // How many ticks a master holds the clock low, and then high.
 ghost use Rattle.std.specs.Prelude.{◌≡◌, ◌≤◌};
-ghost use Rattle.transfer.specs.Refusals.{answer};
-ghost use Rattle.transfer.specs.Clocks.{checked_counts};
+ghost use Rattle.transfer.specs.Refusal.{answer};
+ghost use Rattle.transfer.specs.ClockPair.{checked_counts};
 ghost use Rattle.transfer.specs.Limits.{most_count};
 
 use crate::refusal::Refusal;

@@ -1,5 +1,5 @@
 // A transfer being put together, and the sealed transfer that it becomes.
-ghost use Rattle.transfer.specs.Drafts.{TransferModel, transfer_model};
+ghost use Rattle.transfer.specs.Transfer.{TransferModel, transfer_model};
 
 use crate::leg::Leg;
 use std::marker::Model;

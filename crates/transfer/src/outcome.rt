@@ -1,7 +1,6 @@
 // What a host is told of its transfer.
 ghost use Rattle.std.specs.Prelude.{◌≡◌, ◌+◌, ◌≤◌, ◌++◌, Some, length};
-ghost use Rattle.transfer.specs.Outcomes.{outcome_model};
-ghost use Rattle.transfer.specs.OutcomeTexts.{outcome_text};
+ghost use Rattle.transfer.specs.Outcome.{outcome_model, outcome_text};
 
 use crate::bytes::ReadBytes;
 use std::fmt;

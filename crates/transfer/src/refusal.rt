@@ -1,6 +1,6 @@
 // Why a call is refused. Of two cases the upper decides.
 ghost use Rattle.std.specs.Prelude.{◌≡◌, Some};
-ghost use Rattle.transfer.specs.Refusals.{number, message};
+ghost use Rattle.transfer.specs.Refusal.{number, message};
 
 use std::error::Error;
 use std::fmt;

@@ -1,9 +1,10 @@
 // What a wire says in bytes: its bits in nines, from the last start on.
 ghost use Rattle.std.specs.Prelude.{◌≡◌};
-ghost use Rattle.wire.specs.Decoders.{acknowledge_of, new_decoder, takes_bit, decoder_step};
+ghost use Rattle.wire.specs.Decoder.{acknowledge_of, new_decoder, take_bit, decoder_step};
 
-use crate::octet::Partial;
-use crate::wire::{Event, Latch};
+use crate::byte_progress::Partial;
+use crate::event::Event;
+use crate::latch::Latch;
 
 mod texts;
 
@@ -47,7 +48,7 @@ pub struct Decoder {
 
 // The ninth bit acknowledges the eight before it.
 fn take_bit(byte: Partial, bit: bool) -> (Decoded, Partial)
-    ensures { result ≡ takes_bit byte bit }
+    ensures { result ≡ take_bit byte bit }
 {
     if byte.bits < 8 {
         return (Decoded::Nothing, byte.received(bit));

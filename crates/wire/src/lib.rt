@@ -1,12 +1,20 @@
-// The two lines and what passes over them: levels, events, the bits of a byte, and the bytes that they say.
+//! The two lines and what passes over them: levels, events, the bits of a byte, and the bytes that they say.
 #![tactic(auto)]
 
+mod byte_progress;
 mod decoder;
-mod octet;
+mod event;
+mod latch;
+mod levels;
+mod pulls;
 #[cfg(test)]
 mod tests;
 mod wire;
 
+pub use byte_progress::{Partial, digit_at, shift_in};
 pub use decoder::{Acknowledge, Decoded, DecodedByte, Decoder};
-pub use octet::{Partial, digit_at, shift_in};
-pub use wire::{Event, Latch, Levels, Pulls, Signal, Wire};
+pub use event::Event;
+pub use latch::Latch;
+pub use levels::Levels;
+pub use pulls::Pulls;
+pub use wire::{Signal, Wire};

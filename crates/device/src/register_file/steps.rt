@@ -1,6 +1,6 @@
 // The register file's making and its steps.
 ghost use Rattle.std.specs.Prelude.{◌≡◌};
-ghost use Rattle.device.specs.RegisterFiles.{registers, register_file, new_registers};
+ghost use Rattle.device.specs.RegisterFile.{register_file_model, register_file, new_registers};
 
 use super::RegisterFile;
 use crate::device::Device;
@@ -8,7 +8,7 @@ use transfer::Direction;
 
 impl RegisterFile {
     pub fn new() -> RegisterFile
-        ensures { registers result ≡ new_registers }
+        ensures { register_file_model result ≡ new_registers }
     {
         RegisterFile {
             bytes: [0; 16],
@@ -18,14 +18,14 @@ impl RegisterFile {
     }
 
     pub fn bytes(&self) -> [u8; 16]
-        ensures { result ≡ (registers self.now).bytes }
+        ensures { result ≡ (register_file_model self.now).bytes }
     {
         self.bytes
     }
 
     /// The register, from 0 to 15, that the next byte is taken from, or stored in once a write has set the pointer.
     pub fn pointer(&self) -> u8
-        ensures { result ≡ (registers self.now).pointer }
+        ensures { result ≡ (register_file_model self.now).pointer }
     {
         self.pointer
     }
@@ -34,7 +34,7 @@ impl RegisterFile {
 impl Device for RegisterFile {
     ghost behaviour = { register_file };
 
-    ghost means = { registers };
+    ghost means = { register_file_model };
 
     fn select(&mut self, direction: Direction) -> bool {
         if direction == Direction::Write {

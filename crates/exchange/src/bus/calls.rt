@@ -1,16 +1,15 @@
 // The calls of a bus.
 ghost use Rattle.std.specs.Prelude.{◌≡◌, ◌≤◌, length};
-ghost use Rattle.transfer.specs.Refusals.{answer};
-ghost use Rattle.law.specs.Asked.{EveryAsked};
-ghost use Rattle.law.specs.Banks.{each};
-ghost use Rattle.law.specs.Buses.{made, arm_at, NeverHold, no_holds, tick_at, is_at_rest};
+ghost use Rattle.transfer.specs.Refusal.{answer};
+ghost use Rattle.law.specs.AskedLaw.{EveryAsked};
+ghost use Rattle.law.specs.Bank.{bank_map};
+ghost use Rattle.law.specs.Bus.{new_bus, arm_at, NeverHold, no_holds, tick_at, is_at_rest};
 ghost use Rattle.law.specs.Facts.{StringLaws, ByteLaws};
-ghost use Rattle.law.specs.Laws.{EveryUse};
+ghost use Rattle.law.specs.Law.{EveryUse};
 ghost use Rattle.law.specs.Limits.{most_masters, most_ports};
-ghost use Rattle.exchange.specs.Calls.{TickedTo};
-ghost use Rattle.exchange.specs.Parts.{bus_model};
-ghost use Rattle.master.specs.Serving.{served_new};
-ghost use Rattle.port.specs.Ports.{port_new};
+ghost use Rattle.exchange.specs.Bus.{TicksTo, bus_model};
+ghost use Rattle.master.specs.Master.{hosted_new};
+ghost use Rattle.port.specs.Port.{reset_port};
 
 use super::Bus;
 use crate::bank::{Masters, Ports};
@@ -26,7 +25,7 @@ impl<M: Masters, P: Ports> Bus<M, P> {
         requires some_master { 1 ≤ length M.Masters.hosts }
         requires few_masters { length M.Masters.hosts ≤ most_masters }
         requires few_ports { length P.Ports.devices ≤ most_ports }
-        ensures made { bus_model result ≡ made M.Masters.hosts P.Ports.devices (M.Masters.stand masters) (P.Ports.stand ports) }
+        ensures made { bus_model result ≡ new_bus M.Masters.hosts P.Ports.devices (M.Masters.stand masters) (P.Ports.stand ports) }
         ensures law { EveryUse M.Masters.hosts P.Ports.devices (M.Masters.stand masters) (P.Ports.stand ports) }
         ensures strings { StringLaws P.Ports.devices P.Ports.devices }
         ensures bytes { ByteLaws P.Ports.devices }
@@ -55,7 +54,7 @@ impl<M: Masters, P: Ports> Bus<M, P> {
     // One tick, one function of the bus before it and of what the devices answer to hold: that alone is open, as far as
     // the devices leave it open. Where none of them may hold, nothing is.
     pub fn tick(&mut self) -> Tick
-        ensures answered { TickedTo self.old result self.new }
+        ensures answered { TicksTo self.old result self.new }
         ensures unheld { NeverHold P.Ports.devices → (result, bus_model self.new) ≡ tick_at _ _ (bus_model self.old) (no_holds P.Ports.devices) }
     {
         let levels = self.masters.pulls().or(self.ports.pulls()).levels();
@@ -96,8 +95,8 @@ impl<M: Masters, P: Ports> Bus<M, P> {
     pub fn close(mut self) -> (M, P)
         ensures hosts { M.Masters.same_hosts self.masters result.0 }
         ensures devices { P.Ports.same_devices self.ports result.1 }
-        ensures masters { M.Masters.stand result.0 ≡ each served_new M.Masters.hosts (M.Masters.stand self.masters) }
-        ensures ports { P.Ports.stand result.1 ≡ each port_new P.Ports.devices (P.Ports.stand self.ports) }
+        ensures masters { M.Masters.stand result.0 ≡ bank_map hosted_new M.Masters.hosts (M.Masters.stand self.masters) }
+        ensures ports { P.Ports.stand result.1 ≡ bank_map reset_port P.Ports.devices (P.Ports.stand self.ports) }
     {
         self.masters.reset();
         self.ports.reset();

@@ -1,12 +1,11 @@
 // A run: ticks until the bus is at rest.
 ghost use Rattle.std.specs.Prelude.{◌≡◌, ◌≤◌};
-ghost use Rattle.transfer.specs.Refusals.{answer};
+ghost use Rattle.transfer.specs.Refusal.{answer};
 ghost use Rattle.law.specs.declared.tick.Tick.{Tick};
-ghost use Rattle.law.specs.Buses.{NeverHold, no_holds, told_at};
-ghost use Rattle.exchange.specs.Calls.{TickedTo, RanTo};
-ghost use Rattle.exchange.specs.Parts.{bus_model, run_model};
+ghost use Rattle.law.specs.Bus.{NeverHold, no_holds, told_at};
+ghost use Rattle.exchange.specs.Bus.{TicksTo, RunsTo, bus_model, run_model};
 ghost use Rattle.law.specs.Limits.{most_masters, most_ticks};
-ghost use Rattle.law.specs.Runs.{how_many, load, run_at};
+ghost use Rattle.law.specs.Run.{some_count, load, run_at};
 
 use super::{Bus, Run};
 use crate::bank::{Masters, Ports};
@@ -19,7 +18,7 @@ impl<M: Masters, P: Ports> Bus<M, P> {
     // Ticks until the bus is at rest, `n` times at most. It counts its ticks by hand: a run may end at either, and its
     // answer is these counts.
     pub fn run(&mut self, n: u32) -> Result<Run, Refusal>
-        ensures answered { RanTo self.old n result self.new }
+        ensures answered { RunsTo self.old n result self.new }
         ensures unheld { NeverHold P.Ports.devices → (answer run_model result, bus_model self.new) ≡ run_at _ _ (bus_model self.old) n (λ _. no_holds P.Ports.devices) }
     {
         if n > MOST_TICKS {
@@ -48,8 +47,8 @@ impl<M: Masters, P: Ports> Bus<M, P> {
     // One tick, and how many outcomes it told.
     fn outcomes_of_tick(&mut self) -> u32
         ensures few { result ≤ most_masters }
-        ensures all { result ≡ how_many (told_at _ _ (bus_model self.old)) }
-        ensures after { (t : Tick) × TickedTo self.old t self.new }
+        ensures all { result ≡ some_count (told_at _ _ (bus_model self.old)) }
+        ensures after { (t : Tick) × TicksTo self.old t self.new }
     {
         self.tick().outcomes()
     }

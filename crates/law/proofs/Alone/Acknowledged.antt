@@ -4,20 +4,20 @@ use Rattle.std.proofs.Math.ListN.{get_or-map}
 use Rattle.transfer.specs.declared.leg.Direction.TheVariants.{Write}
 use Rattle.transfer.specs.declared.outcome.OutcomeKind.{OutcomeKind}
 use Rattle.transfer.specs.declared.outcome.OutcomeKind.TheVariants.{Done, NoAnswer, Refused}
-use Rattle.transfer.specs.Drafts.{TransferModel}
-use Rattle.transfer.specs.Legs.{BodyModel, writes, reads, LegModel, body_size, body_direction}
-use Rattle.transfer.specs.Octets.{Octets}
-use Rattle.device.specs.Behaviours.{Behaviour}
-use Rattle.master.specs.Cursors.{sends, at, CursorModel, opening_of}
-use Rattle.master.specs.Scripts.{Script, transfers}
-use Rattle.port.specs.Ports.{PortModel}
-use Rattle.law.specs.Asked.{leg_of, acknowledge_at, body_writes}
-use Rattle.law.specs.Banks.{Bank, each}
-use Rattle.law.specs.Carrying.{Placed, Taking, taken_from, settled, call_byte, byte_levels, Passed, ends, somebody, written, read, passed_body, passed, carried_on, carried}
-use Rattle.law.specs.Facts.{having, write_leg}
-use Rattle.law.specs.Legal.{LegalBody, LegalLeg, LegalSecond, Legal}
-use Rattle.law.specs.Strings.{Letter, zero as low, stop, restart, one, rank, bit_letter}
-use Rattle.law.proofs.Sides.{Side, ends as ends_with, heard, after, string, last}
+use Rattle.transfer.specs.Transfer.{TransferModel}
+use Rattle.transfer.specs.Leg.{BodyModel, writes, reads, LegModel, body_size, body_direction}
+use Rattle.transfer.specs.Octets.{IsOctets}
+use Rattle.device.specs.Device.{Behaviour}
+use Rattle.master.specs.Cursor.{in_leg, cursor_at, CursorModel, new_cursor}
+use Rattle.master.specs.Script.{Script, transfers}
+use Rattle.port.specs.Port.{PortModel}
+use Rattle.law.specs.AskedLaw.{leg_of, acknowledge_at, body_writes}
+use Rattle.law.specs.Bank.{Bank, bank_map}
+use Rattle.law.specs.TransferResult.{AddressedDevice, DeviceInLeg, device_after_take, device_after_leg, call_byte, byte_levels, LegResult, leg_end, any_in, write_result, read_result, body_result, leg_result, result_after_leg, transfer_result}
+use Rattle.law.specs.Facts.{devices_after_puts, write_leg}
+use Rattle.law.specs.Legal.{IsLegalBody, IsLegalLeg, IsLegalSecond, IsLegal}
+use Rattle.law.specs.Letter.{Letter, zero as low, stop, restart, one, rank, bit_letter}
+use Rattle.law.proofs.Sides.{Side, leg_end as ends_with, heard, after, string, last}
 use Rattle.law.proofs.Alone.ByteLaws.{took, ninth, later, nine}
 use Rattle.law.proofs.Alone.CarriedAlone.{carried_alone}
 use Rattle.law.proofs.Alone.Legs.{calls, notes, closing, address_plays, written_plays, leg_plays}
@@ -103,33 +103,33 @@ writes_within (reads n) = omega arith
 
 module _ (ds : List Behaviour) where
   -- at most n levels, and n where the leg is done
-  record Long (n : ℕ) (r : Passed ds) : Type 0 where
+  record Long (n : ℕ) (r : LegResult ds) : Type 0 where
     pub most : length r.levels ≤ n
     pub all : r.kind ≡ Done → length r.levels ≡ n
 
-  longer_by : (n x : ℕ) (r s : Passed ds) (t : Bool) → s.levels ≡ [] → (s.kind ≡ Done → ⊥) → Long n r → Long (9 + n) (took ds x r s t)
+  longer_by : (n x : ℕ) (r s : LegResult ds) (t : Bool) → s.levels ≡ [] → (s.kind ≡ Done → ⊥) → Long n r → Long (9 + n) (took ds x r s t)
   longer_by n x r s true p q h = record { most = omega (arith, h.most); all = λ k. omega (arith, h.all k) }
   longer_by n x r s false p q h = record { most = omega (arith, ap length p); all = λ k. absurd (q k) }
 
-  write_long : (l : ℕ) (xs : List ℕ) (n : ℕ) (e : Bank Taking ds) → Long (9 * length xs) (written ds l xs n e)
+  write_long : (l : ℕ) (xs : List ℕ) (n : ℕ) (e : Bank DeviceInLeg ds) → Long (9 * length xs) (write_result ds l xs n e)
   write_long l [] n e = record { most = omega arith; all = λ k. refl }
-  write_long l (x ∷ xs) n e = let w = put_to_all ds x e in let r = written ds l xs (suc n) w in let s = ends ds (Refused (record { leg = l; byte = n })) w in
+  write_long l (x ∷ xs) n e = let w = put_to_all ds x e in let r = write_result ds l xs (suc n) w in let s = leg_end ds (Refused (record { leg = l; byte = n })) w in
       let m : 9 + 9 * length xs ≡ 9 * suc (length xs) = omega arith in
-      subst (λ k. Long k (took ds x r s (somebody ds w))) m (longer_by (9 * length xs) x r s (somebody ds w) refl (λ k. cc) (write_long l xs (suc n) w))
+      subst (λ k. Long k (took ds x r s (any_in ds w))) m (longer_by (9 * length xs) x r s (any_in ds w) refl (λ k. cc) (write_long l xs (suc n) w))
 
-  read_long : (n : ℕ) (e : Bank Taking ds) → Long (9 * n) (read ds n e)
+  read_long : (n : ℕ) (e : Bank DeviceInLeg ds) → Long (9 * n) (read_result ds n e)
   read_long zero e = record { most = omega arith; all = λ k. refl }
-  read_long (suc n) e = let h = read_long n (each taken_from ds e) in let q = h.most in record { most = omega arith; all = λ k. let z = h.all k in omega arith }
+  read_long (suc n) e = let h = read_long n (bank_map device_after_take ds e) in let q = h.most in record { most = omega arith; all = λ k. let z = h.all k in omega arith }
 
-  body_long : (l : ℕ) (b : BodyModel) (e : Bank Taking ds) → Long (9 * body_size b) (passed_body ds l b e)
+  body_long : (l : ℕ) (b : BodyModel) (e : Bank DeviceInLeg ds) → Long (9 * body_size b) (body_result ds l b e)
   body_long l (writes xs) e = write_long l xs 0 e
   body_long l (reads n) e = read_long n e
 
-  leg_long : (l : ℕ) (g : LegModel) (d : Bank Placed ds) → Long (9 * suc (body_size g.body)) (passed ds l g d)
+  leg_long : (l : ℕ) (g : LegModel) (d : Bank AddressedDevice ds) → Long (9 * suc (body_size g.body)) (leg_result ds l g d)
   leg_long l g d = let e = called_for ds g.address (body_direction g.body) d in
       let m : 9 + 9 * body_size g.body ≡ 9 * suc (body_size g.body) = omega arith in
-      subst (λ k. Long k (passed ds l g d)) m
-      (longer_by (9 * body_size g.body) (call_byte g.address g.body) (passed_body ds l g.body e) (ends ds (NoAnswer (record { leg = l })) e) (somebody ds e) refl (λ k. cc) (body_long l g.body e))
+      subst (λ k. Long k (leg_result ds l g d)) m
+      (longer_by (9 * body_size g.body) (call_byte g.address g.body) (body_result ds l g.body e) (leg_end ds (NoAnswer (record { leg = l })) e) (any_in ds e) refl (λ k. cc) (body_long l g.body e))
 
   abbrev E : Side
   E = ports_side ds
@@ -138,78 +138,78 @@ module _ (ds : List Behaviour) where
   plays s bs = play transfers E s bs
 
   -- the bits of a written byte
-  bits_put : (x : ℕ) (w : Bank Taking ds) → x < 256 → plays (each (writing_at 0 0) ds w) (low_bits 8 x []) ≡ each (acknowledging_at Write) ds (put_to_all ds x w)
-  bits_put x w h = plays_to transfers E (low_bits 8 x []) (at (sends (write_leg 0 (x ∷ [])) None 1 0) (notes 0 [] 0 Done)) (each (writing_at 0 0) ds w) (each (acknowledging_at Write) ds (put_to_all ds x w))
-      (written_plays ds None (λ c u. u ≡ each (acknowledging_at Write) ds (put_to_all ds x w)) 0 (x ∷ []) 0 x (notes 0 [] 0 Done) w [] refl h refl)
+  bits_put : (x : ℕ) (w : Bank DeviceInLeg ds) → x < 256 → plays (bank_map (writing_at 0 0) ds w) (low_bits 8 x []) ≡ bank_map (acknowledging_at Write) ds (put_to_all ds x w)
+  bits_put x w h = plays_to transfers E (low_bits 8 x []) (cursor_at (in_leg (write_leg 0 (x ∷ [])) None 1 0) (notes 0 [] 0 Done)) (bank_map (writing_at 0 0) ds w) (bank_map (acknowledging_at Write) ds (put_to_all ds x w))
+      (written_plays ds None (λ c u. u ≡ bank_map (acknowledging_at Write) ds (put_to_all ds x w)) 0 (x ∷ []) 0 x (notes 0 [] 0 Done) w [] refl h refl)
 
   -- and its acknowledge
-  byte_put : (x : ℕ) (w : Bank Taking ds) → x < 256 → plays (each (writing_at 0 0) ds w) (byte_levels x false) ≡ each (writing_at 0 0) ds (put_to_all ds x w)
-  byte_put x w h = play_on transfers E (low_bits 8 x []) (false ∷ []) (each (writing_at 0 0) ds w) ∙ (ap (λ u. E.bit u false) (bits_put x w h) ∙ write_on ds (put_to_all ds x w) false)
+  byte_put : (x : ℕ) (w : Bank DeviceInLeg ds) → x < 256 → plays (bank_map (writing_at 0 0) ds w) (byte_levels x false) ≡ bank_map (writing_at 0 0) ds (put_to_all ds x w)
+  byte_put x w h = play_on transfers E (low_bits 8 x []) (false ∷ []) (bank_map (writing_at 0 0) ds w) ∙ (ap (λ u. E.bit u false) (bits_put x w h) ∙ write_on ds (put_to_all ds x w) false)
 
-  abbrev starts : Bank Placed ds → Bank PortModel ds
-  starts d = each (addressing_at 0 0) ds d
+  abbrev starts : Bank AddressedDevice ds → Bank PortModel ds
+  starts d = bank_map (addressing_at 0 0) ds d
 
-  leg_called : (a : ℕ) (b : BodyModel) (d : Bank Placed ds) → a < 128 → plays (starts d) (byte_levels (call_byte a b) false) ≡ ready ds b (called_for ds a (body_direction b) d)
+  leg_called : (a : ℕ) (b : BodyModel) (d : Bank AddressedDevice ds) → a < 128 → plays (starts d) (byte_levels (call_byte a b) false) ≡ ready ds b (called_for ds a (body_direction b) d)
   leg_called a b d h =
       let x = call_byte a b in let g : LegModel = record { address = a; body = b } in let e = called_for ds a (body_direction b) d in
-      let u = each (acknowledging_at (body_direction b)) ds e in
+      let u = bank_map (acknowledging_at (body_direction b)) ds e in
       let z : plays (starts d) (low_bits 8 x []) ≡ u =
-      plays_to transfers E (low_bits 8 x []) (at (sends g None 0 0) (notes 0 [] 0 Done)) (starts d) u
+      plays_to transfers E (low_bits 8 x []) (cursor_at (in_leg g None 0 0) (notes 0 [] 0 Done)) (starts d) u
       (address_plays ds None (λ c w. w ≡ u) g x (notes 0 [] 0 Done) d [] (calls a b h) refl) in
       play_on transfers E (low_bits 8 x []) (false ∷ []) (starts d) ∙ (ap (λ w. E.bit w false) z ∙ gets_ready ds b e)
 
   -- the levels after the acknowledge of a byte that somebody took
-  after_bits : (x m : ℕ) (r s : Passed ds) (t : Bool) (p q u : Bank PortModel ds) → t ≡ true → plays p (byte_levels x false) ≡ q → plays q (take m r.levels) ≡ u →
+  after_bits : (x m : ℕ) (r s : LegResult ds) (t : Bool) (p q u : Bank PortModel ds) → t ≡ true → plays p (byte_levels x false) ≡ q → plays q (take m r.levels) ≡ u →
       plays p (take (suc (suc (suc (suc (suc (suc (suc (suc (suc m))))))))) (took ds x r s t).levels) ≡ u
   after_bits x m r s true p q u e f h = ap (λ v. plays v (take m r.levels)) f ∙ h
   after_bits x m r s false p q u e f h = cc
 
-  someone_took : (x : ℕ) (r s : Passed ds) (t : Bool) (k : ℕ) → s.levels ≡ [] → get_or (took ds x r s t).levels (suc (suc (suc (suc (suc (suc (suc (suc (suc k))))))))) true ≡ false → t ≡ true
+  someone_took : (x : ℕ) (r s : LegResult ds) (t : Bool) (k : ℕ) → s.levels ≡ [] → get_or (took ds x r s t).levels (suc (suc (suc (suc (suc (suc (suc (suc (suc k))))))))) true ≡ false → t ≡ true
   someone_took x r s t k e h = grind arith
 
   -- after these levels somebody of these devices is in, and each port is ready for what follows
-  abbrev GoesOn : BodyModel → Bank PortModel ds → List Bool → Bank Taking ds → Type 0
-  GoesOn b p ls w = (somebody ds w ≡ true) × (plays p ls ≡ ready ds b w)
+  abbrev GoesOn : BodyModel → Bank PortModel ds → List Bool → Bank DeviceInLeg ds → Type 0
+  GoesOn b p ls w = (any_in ds w ≡ true) × (plays p ls ≡ ready ds b w)
 
-  put_played : (l : ℕ) (xs : List ℕ) (n : ℕ) (e : Bank Taking ds) (y : ℕ) → Octets xs → y < length xs → get_or (written ds l xs n e).levels (9 * y + 8) true ≡ false →
-      GoesOn (writes xs) (each (writing_at 0 0) ds e) (take (suc (9 * y + 8)) (written ds l xs n e).levels) (having ds (take (suc y) xs) e)
+  put_played : (l : ℕ) (xs : List ℕ) (n : ℕ) (e : Bank DeviceInLeg ds) (y : ℕ) → IsOctets xs → y < length xs → get_or (write_result ds l xs n e).levels (9 * y + 8) true ≡ false →
+      GoesOn (writes xs) (bank_map (writing_at 0 0) ds e) (take (suc (9 * y + 8)) (write_result ds l xs n e).levels) (devices_after_puts ds (take (suc y) xs) e)
   put_played l [] n e y o h q = absurd (omega arith)
-  put_played l (x ∷ xs) n e zero o h q = let w = put_to_all ds x e in let r = written ds l xs (suc n) w in let s = ends ds (Refused (record { leg = l; byte = n })) w in
-      let t : somebody ds w ≡ true = ninth ds x r s (somebody ds w) q in let u = each (writing_at 0 0) ds w in
-      (t, after_bits x 0 r s (somebody ds w) (each (writing_at 0 0) ds e) u u t (byte_put x e (o 0)) refl)
-  put_played l (x ∷ xs) n e (suc y) o h q = let w = put_to_all ds x e in let r = written ds l xs (suc n) w in let s = ends ds (Refused (record { leg = l; byte = n })) w in
-      let p : get_or (took ds x r s (somebody ds w)).levels (suc (suc (suc (suc (suc (suc (suc (suc (suc (9 * y + 8)))))))))) true ≡ false = rw (nine y) at q in
-      let z = put_played l xs (suc n) w y (λ j. o (suc j)) (omega arith) (later ds x r s (somebody ds w) (9 * y + 8) refl p) in (
+  put_played l (x ∷ xs) n e zero o h q = let w = put_to_all ds x e in let r = write_result ds l xs (suc n) w in let s = leg_end ds (Refused (record { leg = l; byte = n })) w in
+      let t : any_in ds w ≡ true = ninth ds x r s (any_in ds w) q in let u = bank_map (writing_at 0 0) ds w in
+      (t, after_bits x 0 r s (any_in ds w) (bank_map (writing_at 0 0) ds e) u u t (byte_put x e (o 0)) refl)
+  put_played l (x ∷ xs) n e (suc y) o h q = let w = put_to_all ds x e in let r = write_result ds l xs (suc n) w in let s = leg_end ds (Refused (record { leg = l; byte = n })) w in
+      let p : get_or (took ds x r s (any_in ds w)).levels (suc (suc (suc (suc (suc (suc (suc (suc (suc (9 * y + 8)))))))))) true ≡ false = rw (nine y) cursor_at q in
+      let z = put_played l xs (suc n) w y (λ j. o (suc j)) (omega arith) (later ds x r s (any_in ds w) (9 * y + 8) refl p) in (
         z.0,
-        ap (λ m. plays (each (writing_at 0 0) ds e) (take (suc m) (took ds x r s (somebody ds w)).levels)) (nine y) ∙
-            after_bits x (suc (9 * y + 8)) r s (somebody ds w) (each (writing_at 0 0) ds e) (each (writing_at 0 0) ds w) (each (writing_at 0 0) ds (having ds (take (suc y) xs) w))
-            (someone_took x r s (somebody ds w) (9 * y + 8) refl p) (byte_put x e (o 0)) z.1,
+        ap (λ m. plays (bank_map (writing_at 0 0) ds e) (take (suc m) (took ds x r s (any_in ds w)).levels)) (nine y) ∙
+            after_bits x (suc (9 * y + 8)) r s (any_in ds w) (bank_map (writing_at 0 0) ds e) (bank_map (writing_at 0 0) ds w) (bank_map (writing_at 0 0) ds (devices_after_puts ds (take (suc y) xs) w))
+            (someone_took x r s (any_in ds w) (9 * y + 8) refl p) (byte_put x e (o 0)) z.1,
       )
 
-  call_played : (l a : ℕ) (b : BodyModel) (d : Bank Placed ds) → a < 128 → get_or (passed ds l (record { address = a; body = b }) d).levels 8 true ≡ false →
-      GoesOn b (starts d) (take 9 (passed ds l (record { address = a; body = b }) d).levels) (called_for ds a (body_direction b) d)
-  call_played l a b d h q = let e = called_for ds a (body_direction b) d in let r = passed_body ds l b e in let s = ends ds (NoAnswer (record { leg = l })) e in
-      let t : somebody ds e ≡ true = ninth ds (call_byte a b) r s (somebody ds e) q in
-      (t, after_bits (call_byte a b) 0 r s (somebody ds e) (starts d) (ready ds b e) (ready ds b e) t (leg_called a b d h) refl)
+  call_played : (l a : ℕ) (b : BodyModel) (d : Bank AddressedDevice ds) → a < 128 → get_or (leg_result ds l (record { address = a; body = b }) d).levels 8 true ≡ false →
+      GoesOn b (starts d) (take 9 (leg_result ds l (record { address = a; body = b }) d).levels) (called_for ds a (body_direction b) d)
+  call_played l a b d h q = let e = called_for ds a (body_direction b) d in let r = body_result ds l b e in let s = leg_end ds (NoAnswer (record { leg = l })) e in
+      let t : any_in ds e ≡ true = ninth ds (call_byte a b) r s (any_in ds e) q in
+      (t, after_bits (call_byte a b) 0 r s (any_in ds e) (starts d) (ready ds b e) (ready ds b e) t (leg_called a b d h) refl)
 
   -- the devices in a leg after its first m bytes
-  abbrev pub having_first : BodyModel → ℕ → Bank Taking ds → Bank Taking ds
-  having_first (writes xs) m e = having ds (take m xs) e
+  abbrev pub having_first : BodyModel → ℕ → Bank DeviceInLeg ds → Bank DeviceInLeg ds
+  having_first (writes xs) m e = devices_after_puts ds (take m xs) e
   having_first (reads n) m e = e
 
-  abbrev pub in_leg_after : LegModel → ℕ → Bank Placed ds → Bank Taking ds
+  abbrev pub in_leg_after : LegModel → ℕ → Bank AddressedDevice ds → Bank DeviceInLeg ds
   in_leg_after g m d = having_first g.body m (called_for ds g.address (body_direction g.body) d)
 
-  leg_played : (l a : ℕ) (b : BodyModel) (d : Bank Placed ds) (m : ℕ) → a < 128 → LegalBody b → m ≤ body_writes b → get_or (passed ds l (record { address = a; body = b }) d).levels (9 * m + 8) true ≡ false →
-      GoesOn b (starts d) (take (suc (9 * m + 8)) (passed ds l (record { address = a; body = b }) d).levels) (in_leg_after (record { address = a; body = b }) m d)
+  leg_played : (l a : ℕ) (b : BodyModel) (d : Bank AddressedDevice ds) (m : ℕ) → a < 128 → IsLegalBody b → m ≤ body_writes b → get_or (leg_result ds l (record { address = a; body = b }) d).levels (9 * m + 8) true ≡ false →
+      GoesOn b (starts d) (take (suc (9 * m + 8)) (leg_result ds l (record { address = a; body = b }) d).levels) (in_leg_after (record { address = a; body = b }) m d)
   leg_played l a (writes xs) d zero n o h q = call_played l a (writes xs) d n q
-  leg_played l a (writes xs) d (suc y) n o h q = let e = called_for ds a Write d in let r = written ds l xs 0 e in let s = ends ds (NoAnswer (record { leg = l })) e in
-      let p : get_or (took ds (a * 2) r s (somebody ds e)).levels (suc (suc (suc (suc (suc (suc (suc (suc (suc (9 * y + 8)))))))))) true ≡ false = rw (nine y) at q in
-      let z = put_played l xs 0 e y o.0 (omega arith) (later ds (a * 2) r s (somebody ds e) (9 * y + 8) refl p) in (
+  leg_played l a (writes xs) d (suc y) n o h q = let e = called_for ds a Write d in let r = write_result ds l xs 0 e in let s = leg_end ds (NoAnswer (record { leg = l })) e in
+      let p : get_or (took ds (a * 2) r s (any_in ds e)).levels (suc (suc (suc (suc (suc (suc (suc (suc (suc (9 * y + 8)))))))))) true ≡ false = rw (nine y) cursor_at q in
+      let z = put_played l xs 0 e y o.0 (omega arith) (later ds (a * 2) r s (any_in ds e) (9 * y + 8) refl p) in (
         z.0,
-        ap (λ m. plays (starts d) (take (suc m) (took ds (a * 2) r s (somebody ds e)).levels)) (nine y) ∙
-            after_bits (a * 2) (suc (9 * y + 8)) r s (somebody ds e) (starts d) (each (writing_at 0 0) ds e) (each (writing_at 0 0) ds (having ds (take (suc y) xs) e))
-            (someone_took (a * 2) r s (somebody ds e) (9 * y + 8) refl p) (leg_called a (writes xs) d n) z.1,
+        ap (λ m. plays (starts d) (take (suc m) (took ds (a * 2) r s (any_in ds e)).levels)) (nine y) ∙
+            after_bits (a * 2) (suc (9 * y + 8)) r s (any_in ds e) (starts d) (bank_map (writing_at 0 0) ds e) (bank_map (writing_at 0 0) ds (devices_after_puts ds (take (suc y) xs) e))
+            (someone_took (a * 2) r s (any_in ds e) (9 * y + 8) refl p) (leg_called a (writes xs) d n) z.1,
       )
   leg_played l a (reads n) d zero k o h q = call_played l a (reads n) d k q
   leg_played l a (reads n) d (suc y) k o h q = absurd (omega arith)
@@ -219,69 +219,69 @@ module _ (ds : List Behaviour) where
 
   -- after j slots and the acknowledge the ports are those of devices that were called for leg g and given its first m bytes, somebody still in
   pub record HasAnswered (j : ℕ) (c : CursorModel) (s : Bank PortModel ds) (g : LegModel) (m : ℕ) : Type 0 where
-    pub before : Bank Placed ds
-    pub some : somebody ds (in_leg_after g m before) ≡ true
+    pub before : Bank AddressedDevice ds
+    pub some : any_in ds (in_leg_after g m before) ≡ true
     pub then : up_to (suc j) c s ≡ ready ds g.body (in_leg_after g m before)
 
   -- some slots of a leg
-  in_leg : (g : LegModel) (l : ℕ) (o : Option LegModel) (ys : List ℕ) (d : Bank Placed ds) (m : ℕ) → LegalLeg g → m ≤ length (passed ds l g d).levels →
-      up_to m (at (sends g o 0 0) (notes l ys 0 Done)) (starts d) ≡ plays (starts d) (take m (passed ds l g d).levels)
-  in_leg g l o ys d m h n = last_in transfers E m (passed ds l g d).levels (λ c u. Unit {0}) (at (sends g o 0 0) (notes l ys 0 Done)) (starts d) n (leg_plays ds o (λ c u. Unit {0}) g l ys d h (λ u q. tt))
+  leg_played : (g : LegModel) (l : ℕ) (o : Option LegModel) (ys : List ℕ) (d : Bank AddressedDevice ds) (m : ℕ) → IsLegalLeg g → m ≤ length (leg_result ds l g d).levels →
+      up_to m (cursor_at (in_leg g o 0 0) (notes l ys 0 Done)) (starts d) ≡ plays (starts d) (take m (leg_result ds l g d).levels)
+  leg_played g l o ys d m h n = last_in transfers E m (leg_result ds l g d).levels (λ c u. Unit {0}) (cursor_at (in_leg g o 0 0) (notes l ys 0 Done)) (starts d) n (leg_plays ds o (λ c u. Unit {0}) g l ys d h (λ u q. tt))
 
-  leg_answered : (l : ℕ) (g : LegModel) (o : Option LegModel) (ys : List ℕ) (d : Bank Placed ds) (m : ℕ) → LegalLeg g → m ≤ body_writes g.body →
-      get_or (passed ds l g d).levels (9 * m + 8) true ≡ false → HasAnswered (9 * m + 8) (at (sends g o 0 0) (notes l ys 0 Done)) (starts d) g m
-  leg_answered l g o ys d m f h q = let n = low_there (passed ds l g d).levels (9 * m + 8) q in
+  leg_answered : (l : ℕ) (g : LegModel) (o : Option LegModel) (ys : List ℕ) (d : Bank AddressedDevice ds) (m : ℕ) → IsLegalLeg g → m ≤ body_writes g.body →
+      get_or (leg_result ds l g d).levels (9 * m + 8) true ≡ false → HasAnswered (9 * m + 8) (cursor_at (in_leg g o 0 0) (notes l ys 0 Done)) (starts d) g m
+  leg_answered l g o ys d m f h q = let n = low_there (leg_result ds l g d).levels (9 * m + 8) q in
       let z = leg_played l g.address g.body d m (omega (arith, f.most)) f.within h q in
-      record { before = d; some = z.0; then = in_leg g l o ys d (suc (9 * m + 8)) f (omega arith) ∙ z.1 }
+      record { before = d; some = z.0; then = leg_played g l o ys d (suc (9 * m + 8)) f (omega arith) ∙ z.1 }
 
   -- leg 0
-  first_answered : (g : LegModel) (o : Option LegModel) (d : Bank Placed ds) (m : ℕ) → LegalLeg g → m ≤ body_writes g.body → let r = passed ds 0 g d in
-      (k : OutcomeKind) → r.kind ≡ k → get_or (carried_on ds r k o).letters (9 * m + 8) one ≡ low → HasAnswered (9 * m + 8) (at (sends g o 0 0) (notes 0 [] 0 Done)) (starts d) g m
-  first_answered g o d m f h (NoAnswer p) e q = leg_answered 0 g o [] d m f h (low_before_stop (passed ds 0 g d).levels (9 * m + 8) q)
-  first_answered g o d m f h (Refused p) e q = leg_answered 0 g o [] d m f h (low_before_stop (passed ds 0 g d).levels (9 * m + 8) q)
-  first_answered g None d m f h Done e q = leg_answered 0 g None [] d m f h (low_before_stop (passed ds 0 g d).levels (9 * m + 8) q)
+  first_answered : (g : LegModel) (o : Option LegModel) (d : Bank AddressedDevice ds) (m : ℕ) → IsLegalLeg g → m ≤ body_writes g.body → let r = leg_result ds 0 g d in
+      (k : OutcomeKind) → r.kind ≡ k → get_or (result_after_leg ds r k o).letters (9 * m + 8) one ≡ low → HasAnswered (9 * m + 8) (cursor_at (in_leg g o 0 0) (notes 0 [] 0 Done)) (starts d) g m
+  first_answered g o d m f h (NoAnswer p) e q = leg_answered 0 g o [] d m f h (low_before_stop (leg_result ds 0 g d).levels (9 * m + 8) q)
+  first_answered g o d m f h (Refused p) e q = leg_answered 0 g o [] d m f h (low_before_stop (leg_result ds 0 g d).levels (9 * m + 8) q)
+  first_answered g None d m f h Done e q = leg_answered 0 g None [] d m f h (low_before_stop (leg_result ds 0 g d).levels (9 * m + 8) q)
   first_answered g (Some i) d m f h Done e q =
-      let r = passed ds 0 g d in let z = (leg_long 0 g d).all e in let s = passed ds 1 i (each settled ds r.devices) in let u = writes_within g.body in
+      let r = leg_result ds 0 g d in let z = (leg_long 0 g d).all e in let s = leg_result ds 1 i (bank_map device_after_leg ds r.devices) in let u = writes_within g.body in
       leg_answered 0 g (Some i) [] d m f h (low_level r.levels (restart ∷ (map bit_letter s.levels ++ (stop ∷ []))) (9 * m + 8) (omega arith) q)
 
   -- a leg, the repeated start, and some slots of the next
-  past_leg : (g f : LegModel) (d : Bank Placed ds) (m n : ℕ) → LegalLeg g → let r = passed ds 0 g d in let w = each settled ds r.devices in
-      r.kind ≡ Done → n ≡ length r.levels + suc m → up_to n (at (sends g (Some f) 0 0) (notes 0 [] 0 Done)) (starts d) ≡ up_to m (at (sends f None 0 0) (notes 1 r.bytes 0 Done)) (starts w)
-  past_leg g f d m n h k e = let r = passed ds 0 g d in let w = each settled ds r.devices in let v = up_to m (at (sends f None 0 0) (notes 1 r.bytes 0 Done)) (starts w) in
-      last_past transfers E (suc m) n r.levels (at (sends g (Some f) 0 0) (notes 0 [] 0 Done)) (starts d) v e
+  past_leg : (g f : LegModel) (d : Bank AddressedDevice ds) (m n : ℕ) → IsLegalLeg g → let r = leg_result ds 0 g d in let w = bank_map device_after_leg ds r.devices in
+      r.kind ≡ Done → n ≡ length r.levels + suc m → up_to n (cursor_at (in_leg g (Some f) 0 0) (notes 0 [] 0 Done)) (starts d) ≡ up_to m (cursor_at (in_leg f None 0 0) (notes 1 r.bytes 0 Done)) (starts w)
+  past_leg g f d m n h k e = let r = leg_result ds 0 g d in let w = bank_map device_after_leg ds r.devices in let v = up_to m (cursor_at (in_leg f None 0 0) (notes 1 r.bytes 0 Done)) (starts w) in
+      last_past transfers E (suc m) n r.levels (cursor_at (in_leg g (Some f) 0 0) (notes 0 [] 0 Done)) (starts d) v e
       (leg_plays ds (Some f) (λ c u. up_to (suc m) c u ≡ v) g 0 [] d h
-      (λ u q. subst (λ z. up_to (suc m) (closing z (Some f) (notes 0 r.bytes 0 z)) u ≡ v) (sym k) (ap (up_to m (at (sends f None 0 0) (notes 1 r.bytes 0 Done))) q.start)))
+      (λ u q. subst (λ z. up_to (suc m) (closing z (Some f) (notes 0 r.bytes 0 z)) u ≡ v) (sym k) (ap (up_to m (cursor_at (in_leg f None 0 0) (notes 1 r.bytes 0 Done))) q.start)))
 
   -- leg 1
-  second_answered : (g i : LegModel) (d : Bank Placed ds) (m : ℕ) → LegalLeg g → LegalLeg i → m ≤ body_writes i.body → let r = passed ds 0 g d in let n = 9 * suc (body_size g.body) + suc (9 * m + 8) in
-      (k : OutcomeKind) → r.kind ≡ k → get_or (carried_on ds r k (Some i)).letters n one ≡ low → HasAnswered n (at (sends g (Some i) 0 0) (notes 0 [] 0 Done)) (starts d) i m
-  second_answered g i d m j f h (NoAnswer p) e q = let r = passed ds 0 g d in let n = 9 * suc (body_size g.body) + suc (9 * m + 8) in let z = (leg_long 0 g d).most in let u = low_there r.levels n (low_before_stop r.levels n q) in absurd (omega arith)
-  second_answered g i d m j f h (Refused p) e q = let r = passed ds 0 g d in let n = 9 * suc (body_size g.body) + suc (9 * m + 8) in let z = (leg_long 0 g d).most in let u = low_there r.levels n (low_before_stop r.levels n q) in absurd (omega arith)
+  second_answered : (g i : LegModel) (d : Bank AddressedDevice ds) (m : ℕ) → IsLegalLeg g → IsLegalLeg i → m ≤ body_writes i.body → let r = leg_result ds 0 g d in let n = 9 * suc (body_size g.body) + suc (9 * m + 8) in
+      (k : OutcomeKind) → r.kind ≡ k → get_or (result_after_leg ds r k (Some i)).letters n one ≡ low → HasAnswered n (cursor_at (in_leg g (Some i) 0 0) (notes 0 [] 0 Done)) (starts d) i m
+  second_answered g i d m j f h (NoAnswer p) e q = let r = leg_result ds 0 g d in let n = 9 * suc (body_size g.body) + suc (9 * m + 8) in let z = (leg_long 0 g d).most in let u = low_there r.levels n (low_before_stop r.levels n q) in absurd (omega arith)
+  second_answered g i d m j f h (Refused p) e q = let r = leg_result ds 0 g d in let n = 9 * suc (body_size g.body) + suc (9 * m + 8) in let z = (leg_long 0 g d).most in let u = low_there r.levels n (low_before_stop r.levels n q) in absurd (omega arith)
   second_answered g i d m j f h Done e q =
-      let r = passed ds 0 g d in let w = each settled ds r.devices in let s = passed ds 1 i w in
+      let r = leg_result ds 0 g d in let w = bank_map device_after_leg ds r.devices in let s = leg_result ds 1 i w in
       let n = 9 * suc (body_size g.body) + suc (9 * m + 8) in
       let z = (leg_long 0 g d).all e in
       let u = leg_answered 1 i None r.bytes w m f h (low_before_stop s.levels (9 * m + 8)
       (sym (past_restart r.levels (map bit_letter s.levels ++ (stop ∷ [])) (9 * m + 8) n (omega arith)) ∙ q)) in
       record { before = u.before; some = u.some; then = past_leg g i d (suc (9 * m + 8)) (suc n) j e (omega arith) ∙ u.then }
 
-  transfer_answered : (t : TransferModel) (d : Bank Placed ds) (k m : ℕ) (g : LegModel) → Legal t → leg_of t k ≡ Some g → m ≤ body_writes g.body →
-      get_or (carried ds t d).letters (acknowledge_at t k m) one ≡ low → HasAnswered (acknowledge_at t k m) (opening_of t) (starts d) g m
+  transfer_answered : (t : TransferModel) (d : Bank AddressedDevice ds) (k m : ℕ) (g : LegModel) → IsLegal t → leg_of t k ≡ Some g → m ≤ body_writes g.body →
+      get_or (transfer_result ds t d).letters (acknowledge_at t k m) one ≡ low → HasAnswered (acknowledge_at t k m) (new_cursor t) (starts d) g m
   transfer_answered t d zero m g l e h q = let z : t.first ≡ g = cc in
-      subst (λ w. LegalLeg w → get_or (carried ds (record { first = w; second = t.second }) d).letters (9 * m + 8) one ≡ low → HasAnswered (9 * m + 8) (at (sends w t.second 0 0) (notes 0 [] 0 Done)) (starts d) g m)
-      (sym z) (λ f. first_answered g t.second d m f h (passed ds 0 g d).kind refl) l.first_leg q
+      subst (λ w. IsLegalLeg w → get_or (transfer_result ds (record { first = w; second = t.second }) d).letters (9 * m + 8) one ≡ low → HasAnswered (9 * m + 8) (cursor_at (in_leg w t.second 0 0) (notes 0 [] 0 Done)) (starts d) g m)
+      (sym z) (λ f. first_answered g t.second d m f h (leg_result ds 0 g d).kind refl) l.first_leg q
   transfer_answered t d (suc zero) m g l e h q = let n = 9 * suc (body_size t.first.body) + suc (9 * m + 8) in
-      subst (λ o. LegalSecond o → get_or (carried ds (record { first = t.first; second = o }) d).letters n one ≡ low → HasAnswered n (at (sends t.first o 0 0) (notes 0 [] 0 Done)) (starts d) g m)
-      (sym e) (λ f. second_answered t.first g d m l.first_leg f h (passed ds 0 t.first d).kind refl) l.second_leg q
+      subst (λ o. IsLegalSecond o → get_or (transfer_result ds (record { first = t.first; second = o }) d).letters n one ≡ low → HasAnswered n (cursor_at (in_leg t.first o 0 0) (notes 0 [] 0 Done)) (starts d) g m)
+      (sym e) (λ f. second_answered t.first g d m l.first_leg f h (leg_result ds 0 t.first d).kind refl) l.second_leg q
   transfer_answered t d (suc (suc k)) m g l e h q = cc
 
   -- within some slots a letter is the carried string's
-  pub low_carried : (t : TransferModel) (d : Bank Placed ds) (i j : ℕ) → Legal t → get_or (string transfers E i (opening_of t) (opened_ports ds d)) j 3 ≡ 0 → get_or (carried ds t d).letters j one ≡ low
-  low_carried t d i j g q = let n = i + slots_left (opening_of t) in
-      let z = string_longer transfers E i n j (opening_of t) (opened_ports ds d) (omega arith) q in
-      low_rank (get_or (carried ds t d).letters j one)
-      (sym (get_or-map rank (carried ds t d).letters j one) ∙ (sym (ap (λ l. get_or l j 3) (carried_alone ds t d n g (omega arith)).same_letters) ∙ z))
+  pub low_carried : (t : TransferModel) (d : Bank AddressedDevice ds) (i j : ℕ) → IsLegal t → get_or (string transfers E i (new_cursor t) (opened_ports ds d)) j 3 ≡ 0 → get_or (transfer_result ds t d).letters j one ≡ low
+  low_carried t d i j g q = let n = i + slots_left (new_cursor t) in
+      let z = string_longer transfers E i n j (new_cursor t) (opened_ports ds d) (omega arith) q in
+      low_rank (get_or (transfer_result ds t d).letters j one)
+      (sym (get_or-map rank (transfer_result ds t d).letters j one) ∙ (sym (ap (λ l. get_or l j 3) (carried_alone ds t d n g (omega arith)).same_letters) ∙ z))
 
-  pub answered : (t : TransferModel) (d : Bank Placed ds) (k m : ℕ) (g : LegModel) → Legal t → leg_of t k ≡ Some g → m ≤ body_writes g.body →
-      get_or (carried ds t d).letters (acknowledge_at t k m) one ≡ low → HasAnswered (acknowledge_at t k m) (opening_of t) (opened_ports ds d) g m
-  answered t d k m g l e h q = subst (λ s. HasAnswered (acknowledge_at t k m) (opening_of t) s g m) (sym (opened_is ds d)) (transfer_answered t d k m g l e h q)
+  pub answered : (t : TransferModel) (d : Bank AddressedDevice ds) (k m : ℕ) (g : LegModel) → IsLegal t → leg_of t k ≡ Some g → m ≤ body_writes g.body →
+      get_or (transfer_result ds t d).letters (acknowledge_at t k m) one ≡ low → HasAnswered (acknowledge_at t k m) (new_cursor t) (opened_ports ds d) g m
+  answered t d k m g l e h q = subst (λ s. HasAnswered (acknowledge_at t k m) (new_cursor t) s g m) (sym (opened_is ds d)) (transfer_answered t d k m g l e h q)

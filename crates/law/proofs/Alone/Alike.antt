@@ -1,13 +1,13 @@
 -- What cursors that carried the same letters have in common.
 use Rattle.std.proofs.Common.{◌≡◌, ℕ, suc, ◌<◌, ◌≤◌, Bool, true, false, cond, ◌&&◌, ltb, ◌⊎◌, Option, sym, refl, ◌∙◌, inl, inr, arith}
 use Rattle.std.proofs.lemmas.Bool.{cases_lt, lt-ltb, le-ltb}
-use Rattle.transfer.specs.Drafts.{TransferModel}
-use Rattle.transfer.specs.Legs.{LegModel}
+use Rattle.transfer.specs.Transfer.{TransferModel}
+use Rattle.transfer.specs.Leg.{LegModel}
 use Rattle.master.specs.declared.symbol.Symbol.{Symbol}
 use Rattle.master.specs.declared.symbol.Symbol.TheVariants.{Zero, One, Listen, RepeatedStart, Stop}
-use Rattle.master.specs.Cursors.{Play, done, again, sends, CursorModel, opening_of, is_write, own, size, shown, symbol_of, cursor_next}
+use Rattle.master.specs.Cursor.{Play, at_end, at_restart, in_leg, CursorModel, new_cursor, is_write, master_sends, leg_size, symbol_in_leg, symbol_of, cursor_next}
 use Rattle.law.proofs.Sides.{ends}
-use Rattle.law.specs.Legal.{LegalLeg, LegalSecond, Legal}
+use Rattle.law.specs.Legal.{IsLegalLeg, IsLegalSecond, IsLegal}
 use Rattle.law.proofs.Alone.Moves.{leaves, goes_on, moves, next_is}
 use Rattle.law.proofs.Alone.SlotsLeft.{slots_left, some_left, fewer}
 
@@ -20,20 +20,20 @@ pub record Level (f g : LegModel) (m o : Option LegModel) (x y a b : ℕ) : Type
   pub same_byte : x ≡ y
   pub same_bit : a ≡ b
   pub one_way : OneWay f g x a
-  pub one_legal : LegalLeg f × LegalSecond m
-  pub other_legal : LegalLeg g × LegalSecond o
+  pub one_legal : IsLegalLeg f × IsLegalSecond m
+  pub other_legal : IsLegalLeg g × IsLegalSecond o
 
 -- two cursors at one place
 abbrev pub Same : Play → Play → Type 0
-Same done done = Unit {0}
-Same done (again g) = ⊥
-Same done (sends g o y b) = ⊥
-Same (again f) done = ⊥
-Same (again f) (again g) = LegalLeg f × LegalLeg g
-Same (again f) (sends g o y b) = ⊥
-Same (sends f m x a) done = ⊥
-Same (sends f m x a) (again g) = ⊥
-Same (sends f m x a) (sends g o y b) = Level f g m o x y a b
+Same at_end at_end = Unit {0}
+Same at_end (at_restart g) = ⊥
+Same at_end (in_leg g o y b) = ⊥
+Same (at_restart f) at_end = ⊥
+Same (at_restart f) (at_restart g) = IsLegalLeg f × IsLegalLeg g
+Same (at_restart f) (in_leg g o y b) = ⊥
+Same (in_leg f m x a) at_end = ⊥
+Same (in_leg f m x a) (at_restart g) = ⊥
+Same (in_leg f m x a) (in_leg g o y b) = Level f g m o x y a b
 
 -- two cursors of which neither listens, and which part in this slot
 pub record Apart (p q : Play) : Type 0 where
@@ -59,7 +59,7 @@ abbrev silent : Bool → ℕ → Bool
 silent true b = ltb 7 b
 silent false b = ltb b 8
 
-pub same_own : (f g : LegModel) (y b : ℕ) → OneWay f g y b → own f y ≡ own g y
+pub same_own : (f g : LegModel) (y b : ℕ) → OneWay f g y b → master_sends f y ≡ master_sends g y
 same_own f g y b h = grind arith
 
 both_listen : (p q : Play) → AlikePlay p q → symbol_of p ≡ Listen → symbol_of q ≡ Listen
@@ -76,9 +76,9 @@ sort Stop = 3
 apart : (p q : Play) → (sort (symbol_of p) ≡ 1 → ⊥) → (sort (symbol_of q) ≡ 1 → ⊥) → (sort (symbol_of p) ≡ sort (symbol_of q) → ⊥) → AlikePlay p q
 apart p q h k e = grind arith
 
-module _ (f g : LegModel) (m o : Option LegModel) (hf : LegalLeg f × LegalSecond m) (hg : LegalLeg g × LegalSecond o) (y : ℕ) where
+module _ (f g : LegModel) (m o : Option LegModel) (hf : IsLegalLeg f × IsLegalSecond m) (hg : IsLegalLeg g × IsLegalSecond o) (y : ℕ) where
   abbrev Goes : Bool → Bool → Type 0
-  Goes s t = AlikePlay (cond s (sends f m (suc y) 0) (leaves m)) (cond t (sends g o (suc y) 0) (leaves o))
+  Goes s t = AlikePlay (cond s (in_leg f m (suc y) 0) (leaves m)) (cond t (in_leg g o (suc y) 0) (leaves o))
 
   -- after a written byte one may go on while another leaves
   writers : (s t : Bool) → is_write f.body ≡ true → is_write g.body ≡ true → Goes s t
@@ -88,43 +88,43 @@ module _ (f g : LegModel) (m o : Option LegModel) (hf : LegalLeg f × LegalSecon
   readers : (s t : Bool) → is_write f.body ≡ is_write g.body → s ≡ t → Goes s t
   readers s t h k = grind arith
 
-read_on : (f g : LegModel) (y b : ℕ) → LegalLeg f → LegalLeg g → 8 ≤ b → is_write f.body ≡ false → is_write g.body ≡ false →
-    shown f y b ≡ shown g y b → ltb y (size f) ≡ ltb y (size g)
+read_on : (f g : LegModel) (y b : ℕ) → IsLegalLeg f → IsLegalLeg g → 8 ≤ b → is_write f.body ≡ false → is_write g.body ≡ false →
+    symbol_in_leg f y b ≡ symbol_in_leg g y b → ltb y (leg_size f) ≡ ltb y (leg_size g)
 read_on f g y b h k e d q r = grind arith
 
-goes_alike : (f g : LegModel) (m o : Option LegModel) → LegalLeg f × LegalSecond m → LegalLeg g × LegalSecond o → (y b : ℕ) → 8 ≤ b →
-    (w : Bool) → is_write f.body ≡ w → is_write g.body ≡ w → shown f y b ≡ shown g y b → AlikePlay (goes_on f m y) (goes_on g o y)
-goes_alike f g m o hf hg y b h true p q e = writers f g m o hf hg y (ltb y (size f)) (ltb y (size g)) p q
-goes_alike f g m o hf hg y b h false p q e = readers f g m o hf hg y (ltb y (size f)) (ltb y (size g)) (p ∙ sym q) (read_on f g y b hf.0 hg.0 h p q e)
+goes_alike : (f g : LegModel) (m o : Option LegModel) → IsLegalLeg f × IsLegalSecond m → IsLegalLeg g × IsLegalSecond o → (y b : ℕ) → 8 ≤ b →
+    (w : Bool) → is_write f.body ≡ w → is_write g.body ≡ w → symbol_in_leg f y b ≡ symbol_in_leg g y b → AlikePlay (goes_on f m y) (goes_on g o y)
+goes_alike f g m o hf hg y b h true p q e = writers f g m o hf hg y (ltb y (leg_size f)) (ltb y (leg_size g)) p q
+goes_alike f g m o hf hg y b h false p q e = readers f g m o hf hg y (ltb y (leg_size f)) (ltb y (leg_size g)) (p ∙ sym q) (read_on f g y b hf.0 hg.0 h p q e)
 
-still_one_way : (f g : LegModel) (y b : ℕ) → b < 8 → OneWay f g y b → shown f y b ≡ shown g y b → OneWay f g y (suc b)
+still_one_way : (f g : LegModel) (y b : ℕ) → b < 8 → OneWay f g y b → symbol_in_leg f y b ≡ symbol_in_leg g y b → OneWay f g y (suc b)
 still_one_way f g y b h k e = grind arith
 
 late_one_way : (f g : LegModel) (y b : ℕ) → 8 ≤ b → OneWay f g y b → is_write f.body ≡ is_write g.body
 late_one_way f g y b h k = grind arith
 
-ended_alike : (t : Bool) (p q : Play) → AlikePlay p q → AlikePlay (cond t done p) (cond t done q)
+ended_alike : (t : Bool) (p q : Play) → AlikePlay p q → AlikePlay (cond t at_end p) (cond t at_end q)
 ended_alike t p q h = grind arith
 
-sends_alike : (f g : LegModel) (m o : Option LegModel) (y b : ℕ) (heard : Bool) → LegalLeg f × LegalSecond m → LegalLeg g × LegalSecond o → OneWay f g y b →
-    shown f y b ≡ shown g y b → AlikePlay (moves (sends f m y b) heard) (moves (sends g o y b) heard)
+sends_alike : (f g : LegModel) (m o : Option LegModel) (y b : ℕ) (heard : Bool) → IsLegalLeg f × IsLegalSecond m → IsLegalLeg g × IsLegalSecond o → OneWay f g y b →
+    symbol_in_leg f y b ≡ symbol_in_leg g y b → AlikePlay (moves (in_leg f m y b) heard) (moves (in_leg g o y b) heard)
 sends_alike f g m o y b heard hf hg c e = elim (cases_lt b 8) [
   | inl d ↦ rw (lt-ltb b 8 d) (inl (record { same_byte = refl; same_bit = refl; one_way = still_one_way f g y b d c e; one_legal = hf; other_legal = hg }))
   | inr d ↦ let r = late_one_way f g y b d c in
-      rw (le-ltb b 8 d, same_own f g y b c) (ended_alike (own g y && heard) (goes_on f m y) (goes_on g o y) (goes_alike f g m o hf hg y b d (is_write g.body) r refl e))
+      rw (le-ltb b 8 d, same_own f g y b c) (ended_alike (master_sends g y && heard) (goes_on f m y) (goes_on g o y) (goes_alike f g m o hf hg y b d (is_write g.body) r refl e))
 ]
 
 still_alike : (p q : Play) (heard : Bool) → AlikePlay p q → symbol_of p ≡ symbol_of q → AlikePlay (moves p heard) (moves q heard)
 still_alike p q t (inr a) e = absurd (a.differ e)
-still_alike done done t (inl h) e = inl tt
-still_alike done (again g) t (inl h) e = elim h [ ]
-still_alike done (sends g o y b) t (inl h) e = elim h [ ]
-still_alike (again f) done t (inl h) e = elim h [ ]
-still_alike (again f) (again g) t (inl h) e = inl (record { same_byte = refl; same_bit = refl; one_way = inl (refl, omega arith); one_legal = (h.0, tt); other_legal = (h.1, tt) })
-still_alike (again f) (sends g o y b) t (inl h) e = elim h [ ]
-still_alike (sends f m x a) done t (inl h) e = elim h [ ]
-still_alike (sends f m x a) (again g) t (inl h) e = elim h [ ]
-still_alike (sends f m x a) (sends g o y b) t (inl h) e =
+still_alike at_end at_end t (inl h) e = inl tt
+still_alike at_end (at_restart g) t (inl h) e = elim h [ ]
+still_alike at_end (in_leg g o y b) t (inl h) e = elim h [ ]
+still_alike (at_restart f) at_end t (inl h) e = elim h [ ]
+still_alike (at_restart f) (at_restart g) t (inl h) e = inl (record { same_byte = refl; same_bit = refl; one_way = inl (refl, omega arith); one_legal = (h.0, tt); other_legal = (h.1, tt) })
+still_alike (at_restart f) (in_leg g o y b) t (inl h) e = elim h [ ]
+still_alike (in_leg f m x a) at_end t (inl h) e = elim h [ ]
+still_alike (in_leg f m x a) (at_restart g) t (inl h) e = elim h [ ]
+still_alike (in_leg f m x a) (in_leg g o y b) t (inl h) e =
     rw (← h.same_byte, ← h.same_bit) (sends_alike f g m o x a t h.one_legal h.other_legal h.one_way (rw (← h.same_byte, ← h.same_bit) at e))
 
 pub record CursorLaws : Type 0 where
@@ -132,7 +132,7 @@ pub record CursorLaws : Type 0 where
   pub fewer : (c : CursorModel) (heard : Bool) → (symbol_of c.play ≡ Stop → ⊥) → slots_left (cursor_next c heard) < slots_left c
   pub both_listen : (c e : CursorModel) → Alike c e → symbol_of c.play ≡ Listen → symbol_of e.play ≡ Listen
   pub still_alike : (c e : CursorModel) (heard : Bool) → Alike c e → symbol_of c.play ≡ symbol_of e.play → Alike (cursor_next c heard) (cursor_next e heard)
-  pub open_alike : (t u : TransferModel) → Legal t → Legal u → Alike (opening_of t) (opening_of u)
+  pub open_alike : (t u : TransferModel) → IsLegal t → IsLegal u → Alike (new_cursor t) (new_cursor u)
 
 not_stop : (x : Symbol) → (x ≡ Stop → ⊥) → ends x ≡ false
 not_stop x h = grind arith

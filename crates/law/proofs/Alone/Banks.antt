@@ -1,23 +1,23 @@
 -- Banks: one step after another is one step.
 use Rattle.std.proofs.Common.{◌≡◌, Bool, false, ◌||◌, List, [], ◌∷◌, refl}
-use Rattle.device.specs.Behaviours.{Behaviour}
-use Rattle.law.specs.Banks.{Bank, each, listed, any_true}
+use Rattle.device.specs.Device.{Behaviour}
+use Rattle.law.specs.Bank.{Bank, bank_map, bank_list, any_true}
 
 -- whether one of them answers true
 abbrev pub any : {F : Behaviour → Type 0} → ((b : Behaviour) → F b → Bool) → (ds : List Behaviour) → Bank F ds → Bool
-any q ds d = any_true (listed q ds d)
+any q ds d = any_true (bank_list q ds d)
 
 pub each_each : {F G H : Behaviour → Type 0} (f : (b : Behaviour) → F b → G b) (g : (b : Behaviour) → G b → H b) (h : (b : Behaviour) → F b → H b) →
-    ((b : Behaviour) (x : F b) → g b (f b x) ≡ h b x) → (ds : List Behaviour) (d : Bank F ds) → each g ds (each f ds d) ≡ each h ds d
+    ((b : Behaviour) (x : F b) → g b (f b x) ≡ h b x) → (ds : List Behaviour) (d : Bank F ds) → bank_map g ds (bank_map f ds d) ≡ bank_map h ds d
 each_each f g h e [] d = refl
 each_each f g h e (b ∷ ds) d = λ i. (e b d.0 i, each_each f g h e ds d.1 i)
 
 pub any_each : {F G : Behaviour → Type 0} (f : (b : Behaviour) → F b → G b) (q : (b : Behaviour) → G b → Bool) (r : (b : Behaviour) → F b → Bool) →
-    ((b : Behaviour) (x : F b) → q b (f b x) ≡ r b x) → (ds : List Behaviour) (d : Bank F ds) → any q ds (each f ds d) ≡ any r ds d
+    ((b : Behaviour) (x : F b) → q b (f b x) ≡ r b x) → (ds : List Behaviour) (d : Bank F ds) → any q ds (bank_map f ds d) ≡ any r ds d
 any_each f q r e [] d = refl
 any_each f q r e (b ∷ ds) d = λ i. e b d.0 i || any_each f q r e ds d.1 i
 
 pub none_each : {F G : Behaviour → Type 0} (f : (b : Behaviour) → F b → G b) (q : (b : Behaviour) → G b → Bool) →
-    ((b : Behaviour) (x : F b) → q b (f b x) ≡ false) → (ds : List Behaviour) (d : Bank F ds) → any q ds (each f ds d) ≡ false
+    ((b : Behaviour) (x : F b) → q b (f b x) ≡ false) → (ds : List Behaviour) (d : Bank F ds) → any q ds (bank_map f ds d) ≡ false
 none_each f q e [] d = refl
 none_each f q e (b ∷ ds) d = rw (e b d.0) (none_each f q e ds d.1)

@@ -1,16 +1,16 @@
 -- The ports between turns: they pull nothing, and a transfer alone finds them so and leaves them so.
 use Rattle.std.proofs.Common.{◌≡◌, ℕ, ◌≤◌, false, List, sym, refl, ap, ◌∙◌, subst, le_refl}
-use Rattle.transfer.specs.Drafts.{TransferModel, transfer_model}
-use Rattle.device.specs.Behaviours.{Behaviour}
-use Rattle.law.specs.Banks.{Bank}
-use Rattle.law.specs.Carrying.{Placed, carried}
-use Rattle.master.specs.Cursors.{opening_of}
-use Rattle.port.specs.Ports.{PortModel}
-use Rattle.master.specs.Scripts.{transfers}
+use Rattle.transfer.specs.Transfer.{TransferModel, transfer_model}
+use Rattle.device.specs.Device.{Behaviour}
+use Rattle.law.specs.Bank.{Bank}
+use Rattle.law.specs.TransferResult.{AddressedDevice, transfer_result}
+use Rattle.master.specs.Cursor.{new_cursor}
+use Rattle.port.specs.Port.{PortModel}
+use Rattle.master.specs.Script.{transfers}
 use Rattle.law.proofs.Sides.{last, QuietFor}
 use Rattle.law.proofs.Alone.Banks.{none_each}
 use Rattle.law.proofs.Alone.CarriedAlone.{carried_alone}
-use Rattle.law.specs.Legal.{Legal}
+use Rattle.law.specs.Legal.{IsLegal}
 use Rattle.law.specs.Limits.{most_letters}
 use Rattle.law.proofs.Alone.PortsSide.{pulling, ports_side, idle_port, idle_ports}
 use Rattle.law.proofs.Alone.SlotsLeft.{slots_left, at_most}
@@ -20,23 +20,23 @@ use Rattle.law.proofs.Alone.Statements.{Agrees}
 
 module _ (ds : List Behaviour) where
   pub record Idle (s : Bank PortModel ds) : Type 0 where
-    pub devices : Bank Placed ds
+    pub devices : Bank AddressedDevice ds
     pub ports_are : s ≡ idle_ports ds devices
 
   pub idle_pulls_nothing : (s : Bank PortModel ds) → Idle s → (ports_side ds).pulls s ≡ false
   idle_pulls_nothing s h = rw h.ports_are (none_each idle_port pulling (λ b p. refl) ds h.devices)
 
-  pub quiet_from_idle : (t : TransferModel) (s : Bank PortModel ds) (m : ℕ) → Legal t → Idle s → QuietFor transfers (ports_side ds) m (opening_of t) ((ports_side ds).begin s)
-  quiet_from_idle t s m k h = subst (λ u. QuietFor transfers (ports_side ds) m (opening_of t) ((ports_side ds).begin u)) (sym h.ports_are)
-      ((carried_alone ds t h.devices (slots_left (opening_of t)) k (le_refl (slots_left (opening_of t)))).quiet m)
+  pub quiet_from_idle : (t : TransferModel) (s : Bank PortModel ds) (m : ℕ) → IsLegal t → Idle s → QuietFor transfers (ports_side ds) m (new_cursor t) ((ports_side ds).begin s)
+  quiet_from_idle t s m k h = subst (λ u. QuietFor transfers (ports_side ds) m (new_cursor t) ((ports_side ds).begin u)) (sym h.ports_are)
+      ((carried_alone ds t h.devices (slots_left (new_cursor t)) k (le_refl (slots_left (new_cursor t)))).quiet m)
 
-  pub idle_at_last : (t : TransferModel) (s : Bank PortModel ds) (n : ℕ) → Legal t → slots_left (opening_of t) ≤ n → Idle s →
-      Idle (last transfers (ports_side ds) n (opening_of t) ((ports_side ds).begin s))
+  pub idle_at_last : (t : TransferModel) (s : Bank PortModel ds) (n : ℕ) → IsLegal t → slots_left (new_cursor t) ≤ n → Idle s →
+      Idle (last transfers (ports_side ds) n (new_cursor t) ((ports_side ds).begin s))
   idle_at_last t s n k b h = record {
-    devices = (carried ds t h.devices).devices;
-    ports_are = ap (λ u. last transfers (ports_side ds) n (opening_of t) ((ports_side ds).begin u)) h.ports_are ∙ (carried_alone ds t h.devices n k b).same_devices;
+    devices = (transfer_result ds t h.devices).devices;
+    ports_are = ap (λ u. last transfers (ports_side ds) n (new_cursor t) ((ports_side ds).begin u)) h.ports_are ∙ (carried_alone ds t h.devices n k b).same_devices;
   }
 
   -- for a transfer of the code the slots of the longest string are enough
-  pub sealed_alone : (t : Transfer) (d : Bank Placed ds) → Agrees ds (transfer_model t) d most_letters
+  pub sealed_alone : (t : Transfer) (d : Bank AddressedDevice ds) → Agrees ds (transfer_model t) d most_letters
   sealed_alone t d = let h = legal_transfer t in carried_alone ds (transfer_model t) d most_letters h (at_most (transfer_model t) h)

@@ -1,32 +1,32 @@
 -- Where a cursor goes and what it notes, each by itself.
 use Rattle.std.proofs.Common.{◌≡◌, ℕ, suc, Bool, true, false, cond, ◌&&◌, ltb, [], ◌∷◌, ◌++◌, Some, None, Option, arith}
-use Rattle.transfer.specs.Legs.{LegModel}
-use Rattle.master.specs.Cursors.{Play, done, again, sends, Notes, at, own, size, noted, gathered, unanswered, next_of}
+use Rattle.transfer.specs.Leg.{LegModel}
+use Rattle.master.specs.Cursor.{Play, at_end, at_restart, in_leg, Notes, cursor_at, master_sends, leg_size, notes_with, notes_after_bit, failure_kind, play_next}
 
 abbrev pub leaves : Option LegModel → Play
-leaves None = done
-leaves (Some g) = again g
+leaves None = at_end
+leaves (Some g) = at_restart g
 
 abbrev pub goes_on : LegModel → Option LegModel → ℕ → Play
-goes_on g o y = cond (ltb y (size g)) (sends g o (suc y) 0) (leaves o)
+goes_on g o y = cond (ltb y (leg_size g)) (in_leg g o (suc y) 0) (leaves o)
 
 -- the play after a level was heard
 abbrev pub moves : Play → Bool → Play
-moves done heard = done
-moves (again g) heard = sends g None 0 0
-moves (sends g o y b) heard = cond (ltb b 8) (sends g o y (suc b)) (cond (own g y && heard) done (goes_on g o y))
+moves at_end heard = at_end
+moves (at_restart g) heard = in_leg g None 0 0
+moves (in_leg g o y b) heard = cond (ltb b 8) (in_leg g o y (suc b)) (cond (master_sends g y && heard) at_end (goes_on g o y))
 
 abbrev pub kept : Bool → Notes → Notes
 kept true n = n
-kept false n = noted n (n.bytes ++ (n.value ∷ [])) 0
+kept false n = notes_with n (n.bytes ++ (n.value ∷ [])) 0
 
 -- the notes after it
 abbrev pub notes_on : Play → Notes → Bool → Notes
-notes_on done n heard = n
-notes_on (again g) n heard = record { leg = 1; bytes = n.bytes; value = n.value; kind = n.kind }
-notes_on (sends g o y b) n heard = cond (ltb b 8)
-    (gathered (own g y) n heard)
-    (cond (own g y && heard) (record { leg = n.leg; bytes = n.bytes; value = n.value; kind = unanswered n.leg y }) (kept (own g y) n))
+notes_on at_end n heard = n
+notes_on (at_restart g) n heard = record { leg = 1; bytes = n.bytes; value = n.value; kind = n.kind }
+notes_on (in_leg g o y b) n heard = cond (ltb b 8)
+    (notes_after_bit (master_sends g y) n heard)
+    (cond (master_sends g y && heard) (record { leg = n.leg; bytes = n.bytes; value = n.value; kind = failure_kind n.leg y }) (kept (master_sends g y) n))
 
-pub next_is : (p : Play) (n : Notes) (heard : Bool) → next_of p n heard ≡ at (moves p heard) (notes_on p n heard)
+pub next_is : (p : Play) (n : Notes) (heard : Bool) → play_next p n heard ≡ cursor_at (moves p heard) (notes_on p n heard)
 next_is p n heard = grind arith

@@ -1,16 +1,16 @@
 -- All ports as the far side that a script is played against, and how it follows the ports at each event.
 use Rattle.std.proofs.Common.{◌≡◌, ℕ, Bool, List, [], ◌∷◌, Some, None, Option, refl, arith, ap}
-use Rattle.device.specs.Behaviours.{Behaviour}
+use Rattle.device.specs.Device.{Behaviour}
 use Rattle.port.specs.declared.port.Mode.{Mode}
 use Rattle.port.specs.declared.port.Mode.TheVariants.{Out, Addressing}
-use Rattle.wire.specs.declared.wire.Event.{Event}
-use Rattle.wire.specs.declared.wire.Event.TheVariants.{Rise, Fall, Start, Stop, SteadyHigh, SteadyLow}
+use Rattle.wire.specs.declared.event.Event.{Event}
+use Rattle.wire.specs.declared.event.Event.TheVariants.{Rise, Fall, Start, Stop, SteadyHigh, SteadyLow}
 use Rattle.wire.specs.declared.wire.Signal.{Signal}
-use Rattle.law.specs.Banks.{Bank, each, listed}
-use Rattle.law.specs.Buses.{all_pulls, Holds, ports_step}
-use Rattle.port.specs.Ports.{PortModel, mode_pulls, port_pulls, counts, settles, new_port, port_new}
-use Rattle.law.specs.Carrying.{Placed}
-use Rattle.wire.specs.Octets.{part}
+use Rattle.law.specs.Bank.{Bank, bank_map, bank_list}
+use Rattle.law.specs.Bus.{all_pulls, HoldAnswers, ports_step}
+use Rattle.port.specs.Port.{PortModel, mode_pulls, port_pulls, port_after_bit, port_after_finish, new_port, reset_port}
+use Rattle.law.specs.TransferResult.{AddressedDevice}
+use Rattle.wire.specs.ByteProgress.{progress}
 use Rattle.law.proofs.Sides.{Side}
 use Rattle.law.proofs.Alone.Banks.{any}
 
@@ -19,13 +19,13 @@ abbrev pub unheld : (b : Behaviour) → PortModel b → PortModel b
 unheld b p = record { address = p.address; meaning = p.meaning; owed = p.owed; mode = p.mode; hold = 0 }
 
 abbrev pub counting : Bool → (b : Behaviour) → PortModel b → PortModel b
-counting x b p = counts b p p.mode x 0
+counting x b p = port_after_bit b p p.mode x 0
 
 abbrev pub starting : (b : Behaviour) → PortModel b → PortModel b
-starting b p = settles b p (Addressing (part 0 0))
+starting b p = port_after_finish b p (Addressing (progress 0 0))
 
 abbrev pub stopping : (b : Behaviour) → PortModel b → PortModel b
-stopping b p = settles b p Out
+stopping b p = port_after_finish b p Out
 
 abbrev pub pulling : (b : Behaviour) → PortModel b → Bool
 pulling b p = mode_pulls p.mode
@@ -34,17 +34,17 @@ abbrev pub ports_side : List Behaviour → Side
 ports_side ds = record {
   S = Bank PortModel ds;
   pulls = λ s. any pulling ds s;
-  bit = λ s x. each (counting x) ds s;
-  begin = λ s. each starting ds s;
-  finish = λ s. each stopping ds s;
+  bit = λ s x. bank_map (counting x) ds s;
+  begin = λ s. bank_map starting ds s;
+  finish = λ s. bank_map stopping ds s;
 }
 
 -- the ports of these devices between turns
-abbrev pub idle_port : (b : Behaviour) → Placed b → PortModel b
+abbrev pub idle_port : (b : Behaviour) → AddressedDevice b → PortModel b
 idle_port b d = new_port b d.address d.meaning
 
-abbrev pub idle_ports : (ds : List Behaviour) → Bank Placed ds → Bank PortModel ds
-idle_ports ds d = each idle_port ds d
+abbrev pub idle_ports : (ds : List Behaviour) → Bank AddressedDevice ds → Bank PortModel ds
+idle_ports ds d = bank_map idle_port ds d
 
 -- what the side makes of an event, with the bit that counts at it
 abbrev pub side_sees : (ds : List Behaviour) → Event → Option Bool → Bank PortModel ds → Bank PortModel ds
@@ -58,31 +58,31 @@ side_sees ds (Rise x) o s = s
 
 module _ (b : Behaviour) where
   -- a bit counts alike whatever a port holds, and whatever hold answers
-  pub unheld_counts : (p : PortModel b) (m : Mode) (x : Bool) (h : ℕ) → unheld b (counts b p m x h) ≡ counts b (unheld b p) m x 0
+  pub unheld_counts : (p : PortModel b) (m : Mode) (x : Bool) (h : ℕ) → unheld b (port_after_bit b p m x h) ≡ port_after_bit b (unheld b p) m x 0
   unheld_counts p m x h = grind arith
 
-follows : (ds : List Behaviour) (s : Bank PortModel ds) (e : Event) (o : Option Bool) (i : Bool) (a : Holds ds) →
-    each unheld ds (ports_step ds s (record { event = e; bit = o; idle = i }) a) ≡ side_sees ds e o (each unheld ds s)
+follows : (ds : List Behaviour) (s : Bank PortModel ds) (e : Event) (o : Option Bool) (i : Bool) (a : HoldAnswers ds) →
+    bank_map unheld ds (ports_step ds s (record { event = e; bit = o; free_and_high = i }) a) ≡ side_sees ds e o (bank_map unheld ds s)
 follows [] s e o i a = grind arith
 follows (b ∷ ds) s e o i a = grind (arith, unheld_counts b s.0 s.0.mode, follows ds s.1 e o i a.1)
 
 -- at every signal the ports, but for what they hold, go as the side does
-pub side_follows : (ds : List Behaviour) (s : Bank PortModel ds) (v : Signal) (a : Holds ds) → each unheld ds (ports_step ds s v a) ≡ side_sees ds v.event v.bit (each unheld ds s)
-side_follows ds s v a = follows ds s v.event v.bit v.idle a
+pub side_follows : (ds : List Behaviour) (s : Bank PortModel ds) (v : Signal) (a : HoldAnswers ds) → bank_map unheld ds (ports_step ds s v a) ≡ side_sees ds v.event v.bit (bank_map unheld ds s)
+side_follows ds s v a = follows ds s v.event v.bit v.free_and_high a
 
 -- the ports pull SDA exactly if the side does
-pub side_pulls : (ds : List Behaviour) (s : Bank PortModel ds) → (all_pulls (listed port_pulls ds s)).sda ≡ (ports_side ds).pulls (each unheld ds s)
+pub side_pulls : (ds : List Behaviour) (s : Bank PortModel ds) → (all_pulls (bank_list port_pulls ds s)).sda ≡ (ports_side ds).pulls (bank_map unheld ds s)
 side_pulls [] s = refl
 side_pulls (b ∷ ds) s = grind (arith, side_pulls ds)
 
-pub unheld_settles : (b : Behaviour) (p : PortModel b) (m : Mode) → unheld b (settles b p m) ≡ settles b (unheld b p) m
+pub unheld_settles : (b : Behaviour) (p : PortModel b) (m : Mode) → unheld b (port_after_finish b p m) ≡ port_after_finish b (unheld b p) m
 unheld_settles b p m = refl
 
 -- where a port is, and what its device means
-abbrev pub placed : (b : Behaviour) → PortModel b → Placed b
+abbrev pub placed : (b : Behaviour) → PortModel b → AddressedDevice b
 placed b p = record { address = p.address; meaning = p.meaning }
 
 -- ports of a new bus are idle
-pub new_ports_idle : (ds : List Behaviour) (s : Bank PortModel ds) → each port_new ds s ≡ idle_ports ds (each placed ds s)
+pub new_ports_idle : (ds : List Behaviour) (s : Bank PortModel ds) → bank_map reset_port ds s ≡ idle_ports ds (bank_map placed ds s)
 new_ports_idle [] s = refl
-new_ports_idle (b ∷ ds) s = ap (λ r. (port_new b s.0, r)) (new_ports_idle ds s.1)
+new_ports_idle (b ∷ ds) s = ap (λ r. (reset_port b s.0, r)) (new_ports_idle ds s.1)

@@ -3,10 +3,10 @@ use Rattle.std.proofs.Common.{◌≡◌, ℕ, zero, suc, ◌-◌, ◌/◌, ◌<�
 use native.Mathlib.Nat.{div-eq_of_lt}
 use Rattle.master.specs.declared.symbol.Symbol.{Symbol}
 use Rattle.master.specs.declared.symbol.Symbol.TheVariants.{Listen, RepeatedStart, Stop}
-use Rattle.wire.specs.Octets.{digit, shifted}
-use Rattle.master.specs.Scripts.{Script}
-use Rattle.law.specs.Strings.{Letter, stop, restart, rank, bit_letter}
-use Rattle.master.specs.Symbols.{bit_symbol}
+use Rattle.wire.specs.ByteProgress.{bit_at, shift_in}
+use Rattle.master.specs.Script.{Script}
+use Rattle.law.specs.Letter.{Letter, stop, restart, rank, bit_letter}
+use Rattle.master.specs.Symbol.{bit_symbol}
 use Rattle.law.proofs.Sides.{Side, ends, letter, heard, after, string, last, final, QuietFor}
 use Rattle.law.proofs.Alone.Octets.{shifted_digit}
 
@@ -17,7 +17,7 @@ CarriesLevel x pulled b = ((x ≡ bit_symbol b) × (pulled ≡ false)) ⊎ ((x �
 -- the lowest k bits, and more
 abbrev pub low_bits : ℕ → ℕ → List Bool → List Bool
 low_bits zero x bs = bs
-low_bits (suc k) x bs = digit x k ∷ low_bits k x bs
+low_bits (suc k) x bs = bit_at x k ∷ low_bits k x bs
 
 module _ (D : Side) where
   -- a slot that goes on
@@ -39,22 +39,22 @@ module _ (W : Script) (D : Side) where
 
   -- eight slots: families of cursors and sides that go by the bits counted and their value
   module _ (K : W.Cursor → D.S → Type 0) (x : ℕ) (c : ℕ → ℕ → W.Cursor) (s : ℕ → ℕ → D.S) (t : ℕ → D.S)
-      (level_so : (k v : ℕ) → ltb k 8 ≡ true → CarriesLevel (W.symbol (c k v)) (D.pulls (s k v)) (digit x (7 - k)))
-      (cursors : (k v : ℕ) (b : Bool) → ltb k 8 ≡ true → W.next (c k v) b ≡ c (suc k) (shifted v b))
-      (sides : (k v : ℕ) (b : Bool) → ltb k 7 ≡ true → D.bit (s k v) b ≡ s (suc k) (shifted v b))
-      (full : (v : ℕ) (b : Bool) → D.bit (s 7 v) b ≡ t (shifted v b)) where
-    one_bit : (k v w : ℕ) (u : D.S) (bs : List Bool) → ltb k 8 ≡ true → shifted v (digit x (7 - k)) ≡ w → D.bit (s k v) (digit x (7 - k)) ≡ u →
-        Carries (c (suc k) w) u bs K → Carries (c k v) (s k v) (digit x (7 - k) ∷ bs) K
+      (level_so : (k v : ℕ) → ltb k 8 ≡ true → CarriesLevel (W.symbol (c k v)) (D.pulls (s k v)) (bit_at x (7 - k)))
+      (cursors : (k v : ℕ) (b : Bool) → ltb k 8 ≡ true → W.next (c k v) b ≡ c (suc k) (shift_in v b))
+      (sides : (k v : ℕ) (b : Bool) → ltb k 7 ≡ true → D.bit (s k v) b ≡ s (suc k) (shift_in v b))
+      (full : (v : ℕ) (b : Bool) → D.bit (s 7 v) b ≡ t (shift_in v b)) where
+    one_bit : (k v w : ℕ) (u : D.S) (bs : List Bool) → ltb k 8 ≡ true → shift_in v (bit_at x (7 - k)) ≡ w → D.bit (s k v) (bit_at x (7 - k)) ≡ u →
+        Carries (c (suc k) w) u bs K → Carries (c k v) (s k v) (bit_at x (7 - k) ∷ bs) K
     one_bit k v w u bs h e d g = grind arith
 
-    next_bit : (k v w : ℕ) (bs : List Bool) → ltb k 7 ≡ true → ltb k 8 ≡ true → shifted v (digit x (7 - k)) ≡ w →
-        Carries (c (suc k) w) (s (suc k) w) bs K → Carries (c k v) (s k v) (digit x (7 - k) ∷ bs) K
+    next_bit : (k v w : ℕ) (bs : List Bool) → ltb k 7 ≡ true → ltb k 8 ≡ true → shift_in v (bit_at x (7 - k)) ≡ w →
+        Carries (c (suc k) w) (s (suc k) w) bs K → Carries (c k v) (s k v) (bit_at x (7 - k) ∷ bs) K
     next_bit k v w bs h e d g = grind arith
 
     pub byte : (bs : List Bool) → x < 256 → Carries (c 8 x) (t x) bs K → Carries (c 0 0) (s 0 0) (low_bits 8 x bs) K
     byte bs h r =
-        let z : shifted 0 (digit x 7) ≡ x / 128 = ap (λ n. shifted n (digit x 7)) (sym (div-eq_of_lt h)) ∙ shifted_digit x 7 h in
-        let o : shifted (x / 2) (digit x 0) ≡ x = shifted_digit x 0 h ∙ div-one x in
+        let z : shift_in 0 (bit_at x 7) ≡ x / 128 = ap (λ n. shift_in n (bit_at x 7)) (sym (div-eq_of_lt h)) ∙ shifted_digit x 7 h in
+        let o : shift_in (x / 2) (bit_at x 0) ≡ x = shifted_digit x 0 h ∙ div-one x in
         next_bit 0 0 (x / 128) (low_bits 7 x bs) refl refl z
         (next_bit 1 (x / 128) (x / 64) (low_bits 6 x bs) refl refl (shifted_digit x 6 h)
         (next_bit 2 (x / 64) (x / 32) (low_bits 5 x bs) refl refl (shifted_digit x 5 h)
@@ -62,7 +62,7 @@ module _ (W : Script) (D : Side) where
         (next_bit 4 (x / 16) (x / 8) (low_bits 3 x bs) refl refl (shifted_digit x 3 h)
         (next_bit 5 (x / 8) (x / 4) (low_bits 2 x bs) refl refl (shifted_digit x 2 h)
         (next_bit 6 (x / 4) (x / 2) (low_bits 1 x bs) refl refl (shifted_digit x 1 h)
-        (one_bit 7 (x / 2) x (t x) bs refl o (full (x / 2) (digit x 0) ∙ ap t o) r)))))))
+        (one_bit 7 (x / 2) x (t x) bs refl o (full (x / 2) (bit_at x 0) ∙ ap t o) r)))))))
 
 module _ (W : Script) (D : Side) (slots_left : W.Cursor → ℕ) where
   -- within its slots a script played alone spells ts, shows the stop at e and leaves the side at u, which pulls only where it listens

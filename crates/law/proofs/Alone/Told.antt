@@ -2,8 +2,8 @@
 use Rattle.std.proofs.Common.{◌≡◌, ℕ, zero, suc, ◌≤◌, Bool, true, false, cond, List, [], ◌∷◌, sym, refl, ap, ◌∙◌, subst, arith}
 use Rattle.std.proofs.lemmas.Bool.{true≢false, false≢true}
 use Rattle.master.specs.declared.symbol.Symbol.{Symbol}
-use Rattle.master.specs.Cursors.{Play, Notes, CursorModel, symbol_of, cursor_next}
-use Rattle.master.specs.Scripts.{transfers}
+use Rattle.master.specs.Cursor.{Play, Notes, CursorModel, symbol_of, cursor_next}
+use Rattle.master.specs.Script.{transfers}
 use Rattle.law.proofs.Sides.{Side, ends, letter, heard, after, string, final}
 use Rattle.law.proofs.Alone.Alike.{AlikePlay, Alike, cursor_laws}
 use Rattle.law.proofs.Alone.Moves.{notes_on, next_is}

@@ -2,9 +2,9 @@
 use Rattle.std.proofs.Common.{◌≡◌, ℕ, zero, suc, Bool, true, false, not, ◌&&◌, ◌||◌, eqb, List, [], ◌∷◌, get_or, is_some, Some, None, Option, refl, ap, ◌∙◌, ap₂, map, arith}
 use Rattle.master.specs.declared.arming.Arming.{Arming}
 use Rattle.master.specs.declared.symbol.Symbol.{Symbol}
-use Rattle.master.specs.Armings.{armed_by}
-use Rattle.master.specs.Masters.{MasterModel, VerdictModel, quiet, lost, arm_master}
-use Rattle.master.specs.Scripts.{Script}
+use Rattle.master.specs.Arming.{arming_after_arm}
+use Rattle.master.specs.MasterState.{MasterModel, VerdictModel, quiet, lost, arm_master}
+use Rattle.master.specs.Script.{Script}
 use Rattle.law.proofs.Law.Phases.{rank, Cell, out, live, looks, notes, cursor, cursors, some, alive, Every, Timed, who, stay, advance, finished, claim_all}
 use Rattle.law.proofs.Law.Race.{at}
 use Rattle.law.proofs.Law.Uses.{Tasks, count, any, armed_if, arm_book, nobody, task_of, armeds, pulling, is_lost, telling, tellings, arm_masters, begins, falses, marks_too}
@@ -198,10 +198,10 @@ module _ (W : Script) where
   arm_cells (c ∷ cs) (w ∷ ws) zero = arm_cell c w ∷ cs
   arm_cells (c ∷ cs) (w ∷ ws) (suc i) = c ∷ arm_cells cs ws i
 
-  arm_none : (a : Arming W.Task) (w : Option W.Task) → is_some (task_of W a) ≡ true → (armed_by a w).1 ≡ a
+  arm_none : (a : Arming W.Task) (w : Option W.Task) → is_some (task_of W a) ≡ true → (arming_after_arm a w).1 ≡ a
   arm_none a w h = grind arith
 
-  arm_task : (a : Arming W.Task) (w : Option W.Task) → armed_if (task_of W a) w ≡ task_of W (armed_by a w).1
+  arm_task : (a : Arming W.Task) (w : Option W.Task) → armed_if (task_of W a) w ≡ task_of W (arming_after_arm a w).1
   arm_task a w = grind arith
 
   pub arm_looks : (f : MasterModel W → W.Cursor → MasterModel W) (keeps : (m : MasterModel W) (p : W.Cursor) → (f m p).arming ≡ m.arming)

@@ -1,12 +1,12 @@
 -- The law at every point of every use, from the invariant.
 use Rattle.std.proofs.Common.{◌≡◌, ℕ, zero, suc, ◌+◌, ◌<◌, ◌≤◌, Bool, true, false, ◌||◌, ◌⊎◌, List, [], ◌∷◌, get_or, is_some, Some, None, Option, sym, refl, ap, ◌∙◌, subst, ap₂, inl, inr, arith}
 use Rattle.master.specs.declared.symbol.Symbol.{Symbol}
-use Rattle.wire.specs.declared.wire.Event.{Event}
-use Rattle.wire.specs.declared.wire.Event.TheVariants.{Rise, Fall, Start, Stop, SteadyHigh, SteadyLow}
+use Rattle.wire.specs.declared.event.Event.{Event}
+use Rattle.wire.specs.declared.event.Event.TheVariants.{Rise, Fall, Start, Stop, SteadyHigh, SteadyLow}
 use Rattle.master.specs.declared.arming.Arming.{Arming}
-use Rattle.master.specs.Armings.{armed_by}
-use Rattle.master.specs.Masters.{MasterModel, rises, new_master}
-use Rattle.master.specs.Scripts.{Script}
+use Rattle.master.specs.Arming.{arming_after_arm}
+use Rattle.master.specs.MasterState.{MasterModel, rise_step, new_master}
+use Rattle.master.specs.Script.{Script}
 use Rattle.transfer.specs.Limits.{most_count}
 use Rattle.law.specs.Limits.{ticks_of_turn}
 use Rattle.law.proofs.Sides.{Side}
@@ -46,7 +46,7 @@ wanted_arm : {A : Type 0} (ws os : List (Option A)) (i : ℕ) → Wanted ws os �
 wanted_arm ws os i h j t e = elim (arm_from os ws i j t e) [ inl z ↦ h j t z | inr z ↦ z ]
 
 module _ (W : Script) where
-  answer_one : (a : Arming W.Task) (w : Option W.Task) → (armed_by a w).0 ≡ answer_if (task_of W a) w
+  answer_one : (a : Arming W.Task) (w : Option W.Task) → (arming_after_arm a w).0 ≡ answer_if (task_of W a) w
   answer_one a w = grind arith
 
   answers : (ms : List (MasterModel W)) (ws : Tasks W) (i : ℕ) → arm_answer W ms ws i ≡ answer (armeds W ms) ws i
@@ -55,7 +55,7 @@ module _ (W : Script) where
   answers (m ∷ ms) (w ∷ ws) zero = answer_one m.arming w
   answers (m ∷ ms) (w ∷ ws) (suc i) = answers ms ws i
 
-  rise_out : (m : MasterModel W) (p : W.Cursor) (x : Symbol) (b : Bool) → early_lost b x ≡ true → ((rises W m x p b).0.pulls.scl || (rises W m x p b).0.pulls.sda) ≡ false
+  rise_out : (m : MasterModel W) (p : W.Cursor) (x : Symbol) (b : Bool) → early_lost b x ≡ true → ((rise_step W m x p b).0.pulls.scl || (rise_step W m x p b).0.pulls.sda) ≡ false
   rise_out m p x b h = grind arith
 
   never_out : (g : MasterModel W → W.Cursor → MasterModel W) (m : MasterModel W) (p : W.Cursor) → false ≡ true → ((g m p).pulls.scl || (g m p).pulls.sda) ≡ false

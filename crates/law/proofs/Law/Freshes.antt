@@ -1,10 +1,10 @@
 -- The tick after the rise, by the least symbol shown: it stays in, and all others drop out.
 use Rattle.std.proofs.Common.{◌≡◌, ℕ, ◌≤◌, Bool, true, false, not, List, Some, None, refl, ap, inl, inr, arith}
 use Rattle.std.proofs.lemmas.Bool.Decides.{nat_tests}
-use Rattle.wire.specs.declared.wire.Event.TheVariants.{Start, Stop, SteadyHigh}
-use Rattle.master.specs.Masters.{MasterModel, master_step}
-use Rattle.master.specs.Scripts.{Script}
-use Rattle.master.specs.Symbols.{pulls_sda}
+use Rattle.wire.specs.declared.event.Event.TheVariants.{Start, Stop, SteadyHigh}
+use Rattle.master.specs.MasterState.{MasterModel, master_step}
+use Rattle.master.specs.Script.{Script}
+use Rattle.master.specs.Symbol.{pulls_sda}
 use Rattle.law.proofs.Sides.{Side}
 use Rattle.law.proofs.Law.Machine.{any_scl, any_sda, levels, tick, tick_verdicts}
 use Rattle.law.proofs.Law.Phases.{lines, shown, rank, pulled, Cell, look, looks, notes, late, idling, fresh, settled, Every, Times, Timed, least, stays, stay, dones, finished, bus, free_bus, fresh_bus, settled_bus, some, carries, Shape}

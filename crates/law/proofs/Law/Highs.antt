@@ -1,9 +1,9 @@
 -- SCL is high: it stays so until the first of the live ones pulls it, and then falls.
 use Rattle.std.proofs.Common.{◌≡◌, ℕ, ◌+◌, ◌-◌, ◌≤◌, Bool, true, false, not, ◌||◌, List, [], ◌∷◌, None, Option, unwrap_or, refl, ap, ◌∙◌, ap₂, arith}
 use Rattle.std.proofs.lemmas.Bool.Decides.{nat_tests}
-use Rattle.wire.specs.declared.wire.Event.TheVariants.{Fall, SteadyHigh}
-use Rattle.master.specs.Masters.{MasterModel, master_step}
-use Rattle.master.specs.Scripts.{Script}
+use Rattle.wire.specs.declared.event.Event.TheVariants.{Fall, SteadyHigh}
+use Rattle.master.specs.MasterState.{MasterModel, master_step}
+use Rattle.master.specs.Script.{Script}
 use Rattle.transfer.specs.Limits.{most_count}
 use Rattle.law.proofs.Sides.{Side}
 use Rattle.law.proofs.Law.Machine.{any_scl, any_sda, masters_step, asked, taken, levels, tick}

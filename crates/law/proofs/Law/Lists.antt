@@ -1,10 +1,10 @@
 -- One event for a whole list of masters, from what it makes of one; and what holds of the least rank shown.
 use Rattle.std.proofs.Common.{◌≡◌, ℕ, ◌≤◌, Bool, true, false, List, [], ◌∷◌, refl, arith}
 use Rattle.master.specs.declared.symbol.Symbol.{Symbol}
-use Rattle.wire.specs.declared.wire.Levels.{Levels}
+use Rattle.wire.specs.declared.levels.Levels.{Levels}
 use Rattle.wire.specs.declared.wire.Signal.{Signal}
-use Rattle.master.specs.Masters.{MasterModel, VerdictModel, quiet, master_step}
-use Rattle.master.specs.Scripts.{Script}
+use Rattle.master.specs.MasterState.{MasterModel, VerdictModel, quiet, master_step}
+use Rattle.master.specs.Script.{Script}
 use Rattle.law.proofs.Sides.{Side}
 use Rattle.law.proofs.Law.Machine.{any_scl, any_sda, masters_step, verdicts, Bus, levels, after, tick, said, tick_verdicts}
 use Rattle.law.proofs.Law.Phases.{rank, Cell, live, off, look, looks, turns, notes, some, Every, Times, Timed, least}

@@ -1,10 +1,10 @@
 -- SCL is low: it stays so while somebody holds it, and then rises.
 use Rattle.std.proofs.Common.{◌≡◌, ℕ, ◌+◌, ◌-◌, ◌≤◌, Bool, true, false, ◌||◌, List, [], ◌∷◌, Some, None, refl, ap, ◌∙◌, ap₂, arith}
 use Rattle.std.proofs.lemmas.Bool.Decides.{nat_tests}
-use Rattle.wire.specs.declared.wire.Event.TheVariants.{Rise, SteadyLow}
-use Rattle.master.specs.Masters.{MasterModel, master_step}
-use Rattle.master.specs.Scripts.{Script}
-use Rattle.master.specs.Symbols.{pulls_sda}
+use Rattle.wire.specs.declared.event.Event.TheVariants.{Rise, SteadyLow}
+use Rattle.master.specs.MasterState.{MasterModel, master_step}
+use Rattle.master.specs.Script.{Script}
+use Rattle.master.specs.Symbol.{pulls_sda}
 use Rattle.transfer.specs.Limits.{most_count}
 use Rattle.law.proofs.Sides.{Side}
 use Rattle.law.proofs.Law.Machine.{any_scl, any_sda, masters_step, levels, tick}

@@ -1,20 +1,22 @@
 -- The bus in ticks, over any script that contenders play and any far side: all ports together.
 use Rattle.std.proofs.Common.{ℕ, ◌-◌, Bool, ltb, List, [], ◌∷◌, Some, None, Option}
-use Rattle.wire.specs.declared.wire.Event.{Event}
-use Rattle.wire.specs.declared.wire.Event.TheVariants.{Rise, Fall, Start, Stop, SteadyHigh, SteadyLow}
-use Rattle.wire.specs.declared.wire.Levels.{Levels}
-use Rattle.wire.specs.declared.wire.Pulls.{Pulls}
+use Rattle.wire.specs.declared.event.Event.{Event}
+use Rattle.wire.specs.declared.event.Event.TheVariants.{Rise, Fall, Start, Stop, SteadyHigh, SteadyLow}
+use Rattle.wire.specs.declared.levels.Levels.{Levels}
+use Rattle.wire.specs.declared.pulls.Pulls.{Pulls}
 use Rattle.wire.specs.declared.wire.Signal.{Signal}
 use Rattle.wire.specs.declared.wire.Wire.{Wire}
-use Rattle.master.specs.Masters.{MasterModel, VerdictModel, master_step}
-use Rattle.master.specs.Scripts.{Script}
-use Rattle.wire.specs.Wires.{no_pulls, both, levels_of, event, signal, wire_after}
+use Rattle.master.specs.MasterState.{MasterModel, VerdictModel, master_step}
+use Rattle.master.specs.Script.{Script}
+use Rattle.wire.specs.Pulls.{no_pulls, pulls_or, levels_of}
+use Rattle.wire.specs.Event.{event_between}
+use Rattle.wire.specs.Wire.{signal, wire_after}
 use Rattle.law.proofs.Sides.{Side}
 
 module _ (W : Script) where
   abbrev pub masters_pull : List (MasterModel W) → Pulls
   masters_pull [] = no_pulls
-  masters_pull (m ∷ ms) = both m.pulls (masters_pull ms)
+  masters_pull (m ∷ ms) = pulls_or m.pulls (masters_pull ms)
 
   abbrev pub any_scl : List (MasterModel W) → Bool
   any_scl ms = (masters_pull ms).scl
@@ -66,7 +68,7 @@ module _ (W : Script) (D : Side) where
     pub hold : ℕ
 
   abbrev pub levels : Bus → Levels
-  levels u = levels_of (both (masters_pull W u.masters) (record { scl = ltb 0 u.hold; sda = D.pulls u.side }))
+  levels u = levels_of (pulls_or (masters_pull W u.masters) (record { scl = ltb 0 u.hold; sda = D.pulls u.side }))
 
   -- what the levels v make of the bus, where a hold that is asked for answers h
   abbrev pub after : Bus → Levels → ℕ → Bus
@@ -82,7 +84,7 @@ module _ (W : Script) (D : Side) where
   tick u h = after u (levels u) h
 
   abbrev pub tick_event : Bus → Event
-  tick_event u = event u.wire.last (levels u)
+  tick_event u = event_between u.wire.last (levels u)
 
   -- what comes of it for each master
   abbrev pub said : Bus → Levels → List (VerdictModel W)

@@ -4,12 +4,12 @@ use Rattle.master.specs.declared.arming.Arming.{Arming}
 use Rattle.master.specs.declared.arming.Arming.TheVariants.{Unarmed, Armed}
 use Rattle.master.specs.declared.symbol.Symbol.{Symbol}
 use Rattle.master.specs.declared.symbol.Symbol.TheVariants.{Zero, One, Listen, RepeatedStart, Stop}
-use Rattle.wire.specs.declared.wire.Event.{Event}
-use Rattle.wire.specs.declared.wire.Levels.{Levels}
+use Rattle.wire.specs.declared.event.Event.{Event}
+use Rattle.wire.specs.declared.levels.Levels.{Levels}
 use Rattle.wire.specs.declared.wire.Signal.{Signal}
-use Rattle.master.specs.Masters.{MasterModel, waiting, opening, showing, VerdictModel, quiet, lost, told, to, rises, new_master}
-use Rattle.master.specs.Scripts.{Script}
-use Rattle.master.specs.Symbols.{pulls_sda}
+use Rattle.master.specs.MasterState.{MasterModel, idle, start_pending, sending, VerdictModel, quiet, lost, told, with_stage, rise_step, new_master}
+use Rattle.master.specs.Script.{Script}
+use Rattle.master.specs.Symbol.{pulls_sda}
 use Rattle.transfer.specs.Limits.{most_count}
 use Rattle.law.proofs.Sides.{Side}
 use Rattle.law.proofs.Law.Machine.{Bus, any_scl}
@@ -19,7 +19,7 @@ lines c d = record { scl = c; sda = d }
 
 -- what a tick shows, with the bit that counts and whether the bus is free with both lines high
 abbrev pub shown : Event → Option Bool → Bool → Signal
-shown e o i = record { event = e; bit = o; idle = i }
+shown e o i = record { event = e; bit = o; free_and_high = i }
 
 -- the order in which strings compare: 0, stop, repeated start, 1
 abbrev pub rank : Symbol → ℕ
@@ -68,7 +68,7 @@ module _ (W : Script) where
     live : MasterModel W → W.Cursor → Cell
 
   abbrev pub off : MasterModel W → MasterModel W
-  off m = to W m waiting 0 false false
+  off m = with_stage W m idle 0 false false
 
   -- a master, where f says how a live one looks
   abbrev pub look : (MasterModel W → W.Cursor → MasterModel W) → Cell → MasterModel W
@@ -124,22 +124,22 @@ module _ (W : Script) where
   idling m p = off m
 
   abbrev pub claimed : MasterModel W → W.Cursor → MasterModel W
-  claimed m p = to W m (opening p) 0 false true
+  claimed m p = with_stage W m (start_pending p) 0 false true
 
   abbrev pub opened : ℕ → MasterModel W → W.Cursor → MasterModel W
-  opened e m p = to W m (opening p) (m.high - e) (eqb (m.high - e) 0) true
+  opened e m p = with_stage W m (start_pending p) (m.high - e) (eqb (m.high - e) 0) true
 
   abbrev pub lowered : ℕ → MasterModel W → W.Cursor → MasterModel W
-  lowered e m p = to W m (showing (W.symbol p) p) (m.low - e) (ltb 0 (m.low - e)) (pulls_sda (W.symbol p))
+  lowered e m p = with_stage W m (sending (W.symbol p) p) (m.low - e) (ltb 0 (m.low - e)) (pulls_sda (W.symbol p))
 
   abbrev pub released : MasterModel W → W.Cursor → MasterModel W
-  released m p = to W m (showing (W.symbol p) p) 0 false (pulls_sda (W.symbol p))
+  released m p = with_stage W m (sending (W.symbol p) p) 0 false (pulls_sda (W.symbol p))
 
   abbrev pub fresh : Bool → MasterModel W → W.Cursor → MasterModel W
-  fresh b m p = (rises W (released m p) (W.symbol p) p b).0
+  fresh b m p = (rise_step W (released m p) (W.symbol p) p b).0
 
   abbrev pub settled : ℕ → MasterModel W → W.Cursor → MasterModel W
-  settled e m p = to W m (showing (W.symbol p) p) (m.high - e) (eqb (m.high - e) 0) (holds (W.symbol p))
+  settled e m p = with_stage W m (sending (W.symbol p) p) (m.high - e) (eqb (m.high - e) 0) (holds (W.symbol p))
 
   -- some live symbol passes the test f
   abbrev pub some : (Symbol → Bool) → List Cell → Bool

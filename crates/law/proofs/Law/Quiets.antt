@@ -1,10 +1,10 @@
 -- The verdicts of every tick but the one after the rise.
 use Rattle.std.proofs.Common.{◌≡◌, ℕ, Bool, true, false, List, None, Option, refl, arith}
 use Rattle.std.proofs.lemmas.Bool.Decides.{nat_tests}
-use Rattle.wire.specs.declared.wire.Event.TheVariants.{Rise, Fall, Start, SteadyHigh, SteadyLow}
+use Rattle.wire.specs.declared.event.Event.TheVariants.{Rise, Fall, Start, SteadyHigh, SteadyLow}
 use Rattle.master.specs.declared.arming.Arming.{Arming}
-use Rattle.master.specs.Masters.{MasterModel, quiet, contends}
-use Rattle.master.specs.Scripts.{Script}
+use Rattle.master.specs.MasterState.{MasterModel, quiet, contending_step}
+use Rattle.master.specs.Script.{Script}
 use Rattle.law.proofs.Law.Machine.{verdicts}
 use Rattle.law.proofs.Law.Phases.{shown, Cell, off, looks, notes, no_verdict, early, idling, claimed, opened, lowered, settled}
 use Rattle.law.proofs.Law.Lists.{verdicts_all, all_of}
@@ -31,7 +31,7 @@ module _ (W : Script) where
   pub claimed_quiet : (cs : List (Cell W)) → verdicts W (looks W (claimed W) cs) (shown Start None false) ≡ notes W (no_verdict W) cs
   claimed_quiet cs = verdicts_all W (claimed W) (no_verdict W) (shown Start None false) (λ x. Unit {0}) (λ m. refl) (λ m p q. refl) cs (all_of W cs)
 
-  idle_one : (m : MasterModel W) (a : Arming W.Task) → (contends W m a).1 ≡ quiet
+  idle_one : (m : MasterModel W) (a : Arming W.Task) → (contending_step W m a).1 ≡ quiet
   idle_one m a = grind arith
 
   pub idle_quiet : (cs : List (Cell W)) → verdicts W (looks W (idling W) cs) (shown SteadyHigh None true) ≡ notes W (no_verdict W) cs

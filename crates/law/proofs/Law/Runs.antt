@@ -4,9 +4,9 @@ use Rattle.std.proofs.lemmas.Bool.Decides.{nat_tests}
 use Rattle.std.proofs.lemmas.Bool.{cases_lt}
 use Rattle.master.specs.declared.symbol.Symbol.{Symbol}
 use Rattle.master.specs.declared.symbol.Symbol.TheVariants.{Listen, Stop}
-use Rattle.master.specs.Masters.{MasterModel}
-use Rattle.master.specs.Scripts.{Script}
-use Rattle.master.specs.Symbols.{pulls_sda}
+use Rattle.master.specs.MasterState.{MasterModel}
+use Rattle.master.specs.Script.{Script}
+use Rattle.master.specs.Symbol.{pulls_sda}
 use Rattle.law.specs.Limits.{most_letters}
 use Rattle.law.proofs.Sides.{Side, ends, letter, heard, after}
 use Rattle.law.proofs.Law.Phases.{rank, Cell, out, live, turn, cursor, cursors, some, alive, Every, least, stay_if, stay, advance, carries, Shape}

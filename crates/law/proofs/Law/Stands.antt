@@ -1,8 +1,8 @@
 -- The invariant of a bus and its book, between any two steps; and that an arm keeps it.
 use Rattle.std.proofs.Common.{◌≡◌, ℕ, zero, suc, ◌+◌, ◌-◌, ◌*◌, ◌≤◌, Bool, true, false, not, ◌||◌, ◌⊎◌, List, [], ◌∷◌, Some, None, Option, unwrap_or, sym, refl, ap, ◌∙◌, subst, inl, inr, arith}
-use Rattle.master.specs.Masters.{MasterModel}
-use Rattle.master.specs.Scripts.{Script}
-use Rattle.master.specs.Symbols.{pulls_sda}
+use Rattle.master.specs.MasterState.{MasterModel}
+use Rattle.master.specs.Script.{Script}
+use Rattle.master.specs.Symbol.{pulls_sda}
 use Rattle.transfer.specs.Limits.{most_count}
 use Rattle.law.specs.Limits.{most_letters, ticks_of_low, ticks_of_letter, ticks_of_turn}
 use Rattle.law.proofs.Sides.{Side}

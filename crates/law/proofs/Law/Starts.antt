@@ -1,7 +1,7 @@
 -- A free bus: the armed masters claim it, and the turn starts.
 use Rattle.std.proofs.Common.{◌≡◌, ℕ, true, false, List, [], ◌∷◌, None, refl, ap, arith}
-use Rattle.wire.specs.declared.wire.Event.TheVariants.{Start, SteadyHigh}
-use Rattle.master.specs.Scripts.{Script}
+use Rattle.wire.specs.declared.event.Event.TheVariants.{Start, SteadyHigh}
+use Rattle.master.specs.Script.{Script}
 use Rattle.law.proofs.Sides.{Side}
 use Rattle.law.proofs.Law.Machine.{any_sda, masters_step, levels, tick}
 use Rattle.law.proofs.Law.Phases.{lines, shown, Cell, looks, idling, claimed, opened, alive, Timed, claim_all, bus, free_bus, claimed_bus, opened_bus}

@@ -2,7 +2,7 @@
 use Rattle.std.proofs.Common.{◌≡◌, ℕ, ◌≤◌, Bool, true, false, ◌&&◌, eqb, List, [], ◌∷◌, refl, ◌∙◌, arith}
 use Rattle.std.proofs.lemmas.Bool.Decides.{nat_tests}
 use Rattle.master.specs.declared.symbol.Symbol.{Symbol}
-use Rattle.master.specs.Scripts.{Script}
+use Rattle.master.specs.Script.{Script}
 use Rattle.law.proofs.Law.Phases.{rank, holds, Cell, some, alive, Timed, least, stay, advance, finished}
 use Rattle.law.proofs.Law.Lists.{some_false, every, least_some, least_below}
 

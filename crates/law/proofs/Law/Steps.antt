@@ -4,11 +4,12 @@ use Rattle.std.proofs.lemmas.Bool.Decides.{nat_tests as tells}
 use Rattle.std.proofs.lemmas.Bool.{cases_lt}
 use Rattle.master.specs.declared.symbol.Symbol.{Symbol}
 use Rattle.master.specs.declared.symbol.Symbol.TheVariants as symbol
-use Rattle.wire.specs.declared.wire.Event.{Event}
-use Rattle.wire.specs.declared.wire.Event.TheVariants.{Rise, Fall, Start, Stop, SteadyHigh, SteadyLow}
-use Rattle.master.specs.Masters.{VerdictModel, quiet, lost, told}
-use Rattle.master.specs.Scripts.{Script}
-use Rattle.wire.specs.Wires.{event, counted}
+use Rattle.wire.specs.declared.event.Event.{Event}
+use Rattle.wire.specs.declared.event.Event.TheVariants.{Rise, Fall, Start, Stop, SteadyHigh, SteadyLow}
+use Rattle.master.specs.MasterState.{VerdictModel, quiet, lost, told}
+use Rattle.master.specs.Script.{Script}
+use Rattle.wire.specs.Event.{event_between}
+use Rattle.wire.specs.Latch.{counted_bit}
 use Rattle.transfer.specs.Limits.{most_count}
 use Rattle.law.specs.Limits.{most_letters, ticks_of_low, ticks_of_letter, ticks_of_turn}
 use Rattle.law.proofs.Sides.{Side, heard}
@@ -49,7 +50,7 @@ fall_no h = cc
 rise_no : (b : Bool) → Rise b ≡ Stop → ⊥
 rise_no b h = cc
 
-steady : (d : Bool) → event (lines true d) (lines true d) ≡ SteadyHigh
+steady : (d : Bool) → event_between (lines true d) (lines true d) ≡ SteadyHigh
 steady true = refl
 steady false = refl
 
@@ -155,9 +156,9 @@ module _ (W : Script) (D : Side) (left : W.Cursor → ℕ) (H : Hosts W) (Alike 
 
   -- by what the tick is known to be
   by_tick : (hs : H.State) (u : Bus W D) (os : Tasks W) (s : D.S) (t : Option (Tasks W)) (w : Watch) (n h : ℕ) (u' : Bus W D) (ks : List (VerdictModel W)) →
-      tick W D u h ≡ u' → tick_verdicts W D u ≡ ks → Fine hs os s t w n u' (event u.wire.last u'.wire.last) ks → Fine hs os s t w n (tick W D u h) (tick_event W D u) (tick_verdicts W D u)
+      tick W D u h ≡ u' → tick_verdicts W D u ≡ ks → Fine hs os s t w n u' (event_between u.wire.last u'.wire.last) ks → Fine hs os s t w n (tick W D u h) (tick_event W D u) (tick_verdicts W D u)
   by_tick hs u os s t w n h u' ks a b f =
-      subst (λ x. Fine hs os s t w n (tick W D u h) (tick_event W D u) x) (sym b) (subst (λ x. Fine hs os s t w n x (event u.wire.last x.wire.last) ks) (sym a) f)
+      subst (λ x. Fine hs os s t w n (tick W D u h) (tick_event W D u) x) (sym b) (subst (λ x. Fine hs os s t w n x (event_between u.wire.last x.wire.last) ks) (sym a) f)
 
   -- a tick that tells nobody
   silent : (hs : H.State) (os : Tasks W) (s : D.S) (t t' : Option (Tasks W)) (w w' : Watch) (n n' : ℕ) (u : Bus W D) (e : Event) (ks : List (VerdictModel W)) →
@@ -183,7 +184,7 @@ module _ (W : Script) (D : Side) (left : W.Cursor → ℕ) (H : Hosts W) (Alike 
 
   -- a tick with no verdict
   plain : (hs : H.State) (u : Bus W D) (cs : List (Cell W)) (os : Tasks W) (s : D.S) (t t' : Option (Tasks W)) (w w' : Watch) (n n' h : ℕ) (u' : Bus W D) (e : Event) →
-      os ≡ cell_armeds W cs → tick W D u h ≡ u' → event u.wire.last u'.wire.last ≡ e → said W D u u'.wire.last ≡ notes W (no_verdict W) cs →
+      os ≡ cell_armeds W cs → tick W D u h ≡ u' → event_between u.wire.last u'.wire.last ≡ e → said W D u u'.wire.last ≡ notes W (no_verdict W) cs →
       feed W D left H (book W D H hs os s t) e ≡ book W D H hs os s t' → book_tells W D left H (book W D H hs os s t) e ≡ nobody os → (e ≡ Stop → ⊥) → noted W (turned W w os t e) (notes W (no_verdict W) cs) ≡ w' →
       (n' < n) ⊎ (any os ≡ false) → Stands W D left Alike Fits Rest u' os s t' w' n' → Real hs u os s t w n h
   plain hs u cs os s t t' w w' n n' h u' e a q ev sd fe te ne se fs st =
@@ -350,7 +351,7 @@ module _ (W : Script) (D : Side) (left : W.Cursor → ℕ) (H : Hosts W) (Alike 
           ] in
           let rr = some_r in
           plain hs (settled_bus W D d c cs s e) cs os s0 (Some l) (Some l) (watch (suc k) true v sp) (watch (suc k) true v sp) n (n - 1) h (settled_bus W D d c cs s (e + 1)) SteadyHigh g.armed
-          (settled_stays W D d c cs s e h g.timed j x) (steady d) (ap (λ ev. verdicts W (looks W (settled W e) cs) (shown ev (counted c ev) false)) (steady d) ∙ settled_quiet W e cs) refl refl
+          (settled_stays W D d c cs s e h g.timed j x) (steady d) (ap (λ ev. verdicts W (looks W (settled W e) cs) (shown ev (counted_bit c ev) false)) (steady d) ∙ settled_quiet W e cs) refl refl
           high_no (ap (λ x. watch (suc k) true x sp) (marks_none W v cs)) (inl (omega arith))
           (high (settled_bus W D d c cs s (e + 1)) os s0 l v sp cs k r s d c (e + 1) (n - 1) refl j (omega arith) (omega arith) m g run y)
       go true x =

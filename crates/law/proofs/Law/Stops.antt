@@ -2,7 +2,7 @@
 use Rattle.std.proofs.Common.{◌≡◌, ℕ, zero, suc, ◌+◌, ◌≤◌, min, Bool, true, false, cond, not, ◌&&◌, eqb, ◌⊎◌, List, [], ◌∷◌, get_or, is_some, Some, None, Option, sym, refl, ap, ◌∙◌, ap₂, arith}
 use Rattle.std.proofs.lemmas.Bool.{eqb-true, eq-eqb, ne_eqb}
 use Rattle.master.specs.declared.symbol.Symbol.{Symbol}
-use Rattle.master.specs.Scripts.{Script}
+use Rattle.master.specs.Script.{Script}
 use Rattle.law.proofs.Sides.{Side, heard}
 use Rattle.law.proofs.Law.Phases.{rank, early_lost, Cell, out, live, notes, late, cursors, Every, least, finished}
 use Rattle.law.proofs.Law.Race.{at, lead, keep, Laws}

@@ -2,7 +2,7 @@
 use Rattle.std.proofs.Common.{◌≡◌, ℕ, zero, suc, ◌≤◌, Bool, true, false, cond, ◌&&◌, eqb, ◌⊎◌, List, [], ◌∷◌, ◌++◌, length, get_or, is_some, Some, None, unwrap_or, Option, sym, refl, ap, ◌∙◌, ap₂, subst, inl, inr, arith}
 use Rattle.std.proofs.lemmas.Bool.{cases_Bool, eqb-true}
 use Rattle.master.specs.declared.symbol.Symbol.{Symbol}
-use Rattle.master.specs.Scripts.{Script}
+use Rattle.master.specs.Script.{Script}
 use Rattle.law.proofs.Sides.{Side, ends, letter, heard, after, string, last}
 use Rattle.law.proofs.Law.Machine.{taken, Bus}
 use Rattle.law.proofs.Law.Phases.{rank, early_lost, Cell, out, live, advance, cursors, alive}

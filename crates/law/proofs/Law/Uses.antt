@@ -3,13 +3,13 @@ use Rattle.std.proofs.Common.{◌≡◌, ℕ, zero, suc, ◌+◌, ◌<◌, ◌�
 use Rattle.std.specs.Cmp.Lexicographic.{pointwise}
 use Rattle.std.specs.List.{list_any}
 use Rattle.std.specs.Option.{option_map}
-use Rattle.wire.specs.declared.wire.Event.{Event}
-use Rattle.wire.specs.declared.wire.Event.TheVariants.{Rise, Fall, Start, Stop, SteadyHigh, SteadyLow}
+use Rattle.wire.specs.declared.event.Event.{Event}
+use Rattle.wire.specs.declared.event.Event.TheVariants.{Rise, Fall, Start, Stop, SteadyHigh, SteadyLow}
 use Rattle.master.specs.declared.arming.Arming.{Arming}
 use Rattle.master.specs.declared.arming.Arming.TheVariants.{Unarmed, Armed}
-use Rattle.master.specs.Masters.{MasterModel, VerdictModel, quiet, lost, told, new_master, arm_master}
-use Rattle.master.specs.Scripts.{Script}
-use Rattle.wire.specs.Wires.{quiet_wire}
+use Rattle.master.specs.MasterState.{MasterModel, VerdictModel, quiet, lost, told, new_master, arm_master}
+use Rattle.master.specs.Script.{Script}
+use Rattle.wire.specs.Wire.{new_wire}
 use Rattle.transfer.specs.Limits.{most_count}
 use Rattle.law.specs.Limits.{most_letters, most_ticks_of_turn}
 use Rattle.law.proofs.Sides.{Side}
@@ -304,7 +304,7 @@ module _ (W : Script) (D : Side) (H : Hosts W) where
   abbrev pub made : List (ℕ × ℕ) → H.State → D.S → Use
   made cs a s = record {
     hosts = a;
-    bus = record { wire = quiet_wire; masters = fresh_masters W cs; side = s; hold = 0 };
+    bus = record { wire = new_wire; masters = fresh_masters W cs; side = s; hold = 0 };
     book = book W D H a (armeds W (fresh_masters W cs)) s None;
     watch = watch 0 false [] (spell None []);
     arms = 0;

@@ -2,15 +2,15 @@
 use Rattle.std.proofs.Common.{◌≡◌, ℕ, zero, suc, List, [], ◌∷◌, Some, None, Option, refl, ap, subst, le_refl, arith}
 use Rattle.std.specs.Option.{option_map}
 use Rattle.transfer.specs.declared.draft.Transfer.{Transfer}
-use Rattle.transfer.specs.Drafts.{TransferModel, transfer_model}
-use Rattle.transfer.specs.Outcomes.{OutcomeModel}
-use Rattle.device.specs.Behaviours.{Behaviour}
-use Rattle.host.specs.Behaviours.{HostBehaviour}
-use Rattle.law.specs.Banks.{Bank, listed}
-use Rattle.master.specs.Scripts.{transfers}
+use Rattle.transfer.specs.Transfer.{TransferModel, transfer_model}
+use Rattle.transfer.specs.Outcome.{OutcomeModel}
+use Rattle.device.specs.Device.{Behaviour}
+use Rattle.host.specs.Host.{HostBehaviour}
+use Rattle.law.specs.Bank.{Bank, bank_list}
+use Rattle.master.specs.Script.{transfers}
 use Rattle.law.proofs.Alone.Alike.{Alike, cursor_laws}
 use Rattle.law.proofs.Alone.Idle.{Idle, idle_pulls_nothing, quiet_from_idle, idle_at_last}
-use Rattle.law.specs.Legal.{Legal}
+use Rattle.law.specs.Legal.{IsLegal}
 use Rattle.law.proofs.Alone.PortsSide.{ports_side}
 use Rattle.law.proofs.Alone.Sealed.{legal_transfer}
 use Rattle.law.proofs.Alone.SlotsLeft.{slots_left, at_most}
@@ -25,7 +25,7 @@ abbrev pub want_of : (h : HostBehaviour) → h.Meaning → Option TransferModel
 want_of h m = option_map transfer_model (h.want m)
 
 abbrev pub wants_of : (hs : List HostBehaviour) → Meanings hs → List (Option TransferModel)
-wants_of hs m = listed want_of hs m
+wants_of hs m = bank_list want_of hs m
 
 abbrev pub hears_one : (h : HostBehaviour) → h.Meaning → Option OutcomeModel → h.Meaning
 hears_one h m None = m
@@ -39,11 +39,11 @@ hears_all (h ∷ hs) m (t ∷ ts) = (hears_one h m.0 t, hears_all hs m.1 ts)
 abbrev pub all_hosts : List HostBehaviour → Hosts transfers
 all_hosts hs = record { State = Meanings hs; wants = wants_of hs; hear = hears_all hs }
 
-legal_want : (w : Option Transfer) (t : TransferModel) → option_map transfer_model w ≡ Some t → Legal t
+legal_want : (w : Option Transfer) (t : TransferModel) → option_map transfer_model w ≡ Some t → IsLegal t
 legal_want None t e = cc
-legal_want (Some v) t e = let same : transfer_model v ≡ t = cc in subst Legal same (legal_transfer v)
+legal_want (Some v) t e = let same : transfer_model v ≡ t = cc in subst IsLegal same (legal_transfer v)
 
-legal_wants : (hs : List HostBehaviour) (m : Meanings hs) (i : ℕ) (t : TransferModel) → at (wants_of hs m) i ≡ Some t → Legal t
+legal_wants : (hs : List HostBehaviour) (m : Meanings hs) (i : ℕ) (t : TransferModel) → at (wants_of hs m) i ≡ Some t → IsLegal t
 legal_wants [] m i t e = cc
 legal_wants (h ∷ hs) m zero t e = legal_want (h.want m.0) t e
 legal_wants (h ∷ hs) m (suc i) t e = legal_wants hs m.1 i t e
@@ -66,7 +66,7 @@ still_wants_all (h ∷ hs) m (t ∷ ts) (suc i) e = still_wants_all hs m.1 ts i 
 pub laws : Laws transfers slots_left Alike
 laws = record { some_left = cursor_laws.some_left; fewer = cursor_laws.fewer; both_listen = cursor_laws.both_listen; still_alike = cursor_laws.still_alike }
 
-pub plays : (hs : List HostBehaviour) (ds : List Behaviour) → Plays transfers (ports_side ds) slots_left (all_hosts hs) Alike Legal (Idle ds)
+pub plays : (hs : List HostBehaviour) (ds : List Behaviour) → Plays transfers (ports_side ds) slots_left (all_hosts hs) Alike IsLegal (Idle ds)
 plays hs ds = record {
   wants = legal_wants hs;
   unheard = unheard_all hs;

@@ -2,24 +2,24 @@
 use Rattle.std.proofs.Common.{◌≡◌, ℕ, zero, suc, ◌+◌, ◌<◌, ◌≤◌, Bool, true, false, ltb, List, [], ◌∷◌, map, get_or, is_some, Some, None, Ok, Err, cond, refl, Option, Result, sym, ap, ◌∙◌, subst, ap₂, arith}
 use Rattle.std.proofs.lemmas.Bool.{le-ltb}
 use Rattle.std.specs.Option.{option_map}
-use Rattle.transfer.specs.Drafts.{TransferModel}
-use Rattle.device.specs.Behaviours.{Behaviour}
-use Rattle.host.specs.Behaviours.{HostBehaviour}
+use Rattle.transfer.specs.Transfer.{TransferModel}
+use Rattle.device.specs.Device.{Behaviour}
+use Rattle.host.specs.Host.{HostBehaviour}
 use Rattle.master.specs.declared.mark.Mark.TheVariants.{Quiet, Lost}
-use Rattle.wire.specs.declared.wire.Event.TheVariants.{Stop}
-use Rattle.law.specs.Banks.{Bank, listed, any_true}
-use Rattle.law.specs.Books.{entry_armed, Turn, opened, Book, book_arm, contests, least}
-use Rattle.law.specs.Buses.{BusModel, Holds, arm_at, levels_at, told_at}
-use Rattle.law.specs.Carrying.{Carried}
-use Rattle.law.specs.Laws.{Call, runs, Use, event_at, marks_of, watched, calls, used, run_on, ticks_of_run, ticks_of_call, ticks_of, armed_now, how_many_true, Point, Loses, Stopped, TickLaw, Law}
-use Rattle.master.specs.Masters.{quiet, lost, VerdictModel, master_step}
-use Rattle.master.specs.Serving.{Served, mark_of, outcome_told, served_mark, served_told}
+use Rattle.wire.specs.declared.event.Event.TheVariants.{Stop}
+use Rattle.law.specs.Bank.{Bank, bank_list, any_true}
+use Rattle.law.specs.Book.{entry_is_armed, Turn, opened, Book, book_arm, contender_results, least_result}
+use Rattle.law.specs.Bus.{BusModel, HoldAnswers, arm_at, levels_at, told_at}
+use Rattle.law.specs.TransferResult.{TransferResult}
+use Rattle.law.specs.Law.{Call, runs, Use, event_at, marks_of, monitor_after, use_after_call, use_after, use_after_ticks, ticks_of_run, ticks_of_call, ticks_of, armed_now, true_count, Point, Loses, StopTells, TickLaw, Law}
+use Rattle.master.specs.MasterState.{quiet, lost, VerdictModel, master_step}
+use Rattle.master.specs.Master.{HostedMaster, mark_of, told_outcome, hosted_mark, hosted_told}
 use Rattle.wire.specs.declared.wire.Signal.{Signal}
-use Rattle.law.specs.Runs.{is_told, RunModel, Running, goes_on, setting_out, reported, run_at}
-use Rattle.master.specs.Scripts.{transfers}
-use Rattle.law.specs.Strings.{rank, first_or_same}
-use Rattle.wire.specs.Wires.{signal}
-use Rattle.law.specs.Legal.{Legal}
+use Rattle.law.specs.Run.{is_told, RunModel, Running, run_after_ticks, run_start, run_report, run_at}
+use Rattle.master.specs.Script.{transfers}
+use Rattle.law.specs.Letter.{rank, first_or_same}
+use Rattle.wire.specs.Wire.{signal}
+use Rattle.law.specs.Legal.{IsLegal}
 use Rattle.law.specs.Limits.{most_ticks, most_ticks_of_turn}
 use Rattle.law.proofs.Alone.PortsSide.{ports_side}
 use Rattle.law.proofs.Alone.SlotsLeft.{slots_left}
@@ -38,15 +38,15 @@ use Rattle.law.proofs.View.Seen.{masters_of, seen, levels_seen}
 use Rattle.law.proofs.View.Used.{used_as, Good, event_seen, told_seen, arm_answer_is}
 use Rattle.law.proofs.View.Watched.{noted_as, watched_as}
 
-pub legal_at : (l : List (Option TransferModel)) (i : ℕ) (t : TransferModel) → AllLegal l → at l i ≡ Some t → Legal t
+pub legal_at : (l : List (Option TransferModel)) (i : ℕ) (t : TransferModel) → AllLegal l → at l i ≡ Some t → IsLegal t
 legal_at [] i t k e = cc
 legal_at (o ∷ l) zero t k e = subst LegalIf e k.0
 legal_at (o ∷ l) (suc i) t k e = legal_at l i t k.1 e
 
-told_mark : (v : VerdictModel transfers) → is_told (mark_of v) ≡ is_some (outcome_told v)
+told_mark : (v : VerdictModel transfers) → is_told (mark_of v) ≡ is_some (told_outcome v)
 told_mark v = grind arith
 
-marks_told : (hs : List HostBehaviour) (ms : Bank Served hs) (s : Signal) → map is_told (listed (λ h. served_mark h s) hs ms) ≡ map is_some (listed (λ h. served_told h s) hs ms)
+marks_told : (hs : List HostBehaviour) (ms : Bank HostedMaster hs) (s : Signal) → map is_told (bank_list (λ h. hosted_mark h s) hs ms) ≡ map is_some (bank_list (λ h. hosted_told h s) hs ms)
 marks_told [] ms s = refl
 marks_told (h ∷ hs) ms s = ap₂ ◌∷◌ (told_mark (master_step transfers ms.0.master s).1) (marks_told hs ms.1 s)
 
@@ -73,11 +73,11 @@ module _ (hs : List HostBehaviour) (ds : List Behaviour) where
     legal : AllLegal l
     legal = contenders_legal hs b.entries
 
-    armed_same : armed_now hs ds x ≡ listed entry_armed hs b.entries
+    armed_same : armed_now hs ds x ≡ bank_list entry_is_armed hs b.entries
     armed_same = sym (masters_armed hs x.bus.masters) ∙ (ap somes law.point.armed ∙ entries_armed hs b.entries g.sound.kept)
 
-    tasks_counted : count (tasks hs b.entries) ≡ how_many_true (armed_now hs ds x)
-    tasks_counted = count_somes (tasks hs b.entries) ∙ ap how_many_true (entries_armed hs b.entries g.sound.kept ∙ sym armed_same)
+    tasks_counted : count (tasks hs b.entries) ≡ true_count (armed_now hs ds x)
+    tasks_counted = count_somes (tasks hs b.entries) ∙ ap true_count (entries_armed hs b.entries g.sound.kept ∙ sym armed_same)
 
     point : Point hs ds x
     point = record {
@@ -91,7 +91,7 @@ module _ (hs : List HostBehaviour) (ds : List Behaviour) where
     abbrev later : LawWatch
     later = turned transfers (noted_as x.watch) (tasks hs b.entries) (turn_if b.turn l) (tick_event transfers (ports_side ds) (seen hs ds x.bus))
 
-    noted : noted_as (watched hs ds x.watch b (event_at hs ds x.bus)) ≡ later
+    noted : noted_as (monitor_after hs ds x.watch b (event_at hs ds x.bus)) ≡ later
     noted = watched_as hs ds x.watch b (event_at hs ds x.bus) g.sound
         ∙ ap (λ e. turned transfers (noted_as x.watch) (tasks hs b.entries) (turn_if b.turn l) e) (event_seen hs ds x.bus)
 
@@ -100,10 +100,10 @@ module _ (hs : List HostBehaviour) (ds : List Behaviour) where
         lexb (text ds b.devices p) (text ds b.devices q) ≡ first_or_same (carry ds b.devices p).letters (carry ds b.devices q).letters
     compared p q i j e f = lexb_is ds b.devices p q (legal_at l i p legal e) (legal_at l j q legal f)
 
-    leads : (q : TransferModel) → lead ds b.devices l ≡ Some q → least ds (contests hs ds b) ≡ Some (carry ds b.devices q)
-    leads q e = ap (least ds) (contests_of hs ds b) ∙ (least_is ds b.devices l legal ∙ ap (option_map (carry ds b.devices)) e)
+    leads : (q : TransferModel) → lead ds b.devices l ≡ Some q → least_result ds (contender_results hs ds b) ≡ Some (carry ds b.devices q)
+    leads q e = ap (least_result ds) (contests_of hs ds b) ∙ (least_is ds b.devices l legal ∙ ap (option_map (carry ds b.devices)) e)
 
-    lead_fits : (q : TransferModel) → lead ds b.devices l ≡ Some q → Legal q
+    lead_fits : (q : TransferModel) → lead ds b.devices l ≡ Some q → IsLegal q
     lead_fits q e = subst LegalIf e (lead_legal ds b.devices l legal)
 
     loses : (i : ℕ) → get_or (marks_of hs ds x.bus) i Quiet ≡ Lost → Loses hs ds x i
@@ -131,7 +131,7 @@ module _ (hs : List HostBehaviour) (ds : List Behaviour) where
     told_same : told_at hs ds x.bus ≡ tick_tells transfers (ports_side ds) (seen hs ds x.bus)
     told_same = told_seen hs ds x.bus
 
-    stops : event_at hs ds x.bus ≡ Stop → b.turn ≡ opened → (i : ℕ) (own : Carried ds) → get_or (contests hs ds b) i None ≡ Some own → Stopped hs ds x i own
+    stops : event_at hs ds x.bus ≡ Stop → b.turn ≡ opened → (i : ℕ) (own : TransferResult ds) → get_or (contender_results hs ds b) i None ≡ Some own → StopTells hs ds x i own
     stops e o i own c =
         let mine = carried_from ds b.devices l i own (ap (λ cs. get_or cs i None) (sym (contests_of hs ds b)) ∙ c) in
         let p = mine.0 in
@@ -149,12 +149,12 @@ module _ (hs : List HostBehaviour) (ds : List Behaviour) where
           );
         }
 
-    spells : event_at hs ds x.bus ≡ Stop → b.turn ≡ opened → (best : Carried ds) → least ds (contests hs ds b) ≡ Some best →
-        (watched hs ds x.watch b (event_at hs ds x.bus)).spelled ≡ best.letters
+    spells : event_at hs ds x.bus ≡ Stop → b.turn ≡ opened → (best : TransferResult ds) → least_result ds (contender_results hs ds b) ≡ Some best →
+        (monitor_after hs ds x.watch b (event_at hs ds x.bus)).spelled ≡ best.letters
     spells e o best c =
         let z = law.ticking.spelled (sym (event_seen hs ds x.bus) ∙ e) l (turn_is b.turn l o) in
         let same : carry ds b.devices z.least ≡ best = let f = leads z.least z.leads in cc in
-        same_ranks (watched hs ds x.watch b (event_at hs ds x.bus)).spelled best.letters
+        same_ranks (monitor_after hs ds x.watch b (event_at hs ds x.bus)).spelled best.letters
         (ap (λ w. w.spelling.letters) noted ∙ (z.whole ∙ (text_is ds b.devices z.least (lead_fits z.least z.leads) ∙ ap (λ u. map rank u.letters) same)))
 
     tick : TickLaw hs ds x
@@ -170,31 +170,31 @@ module _ (hs : List HostBehaviour) (ds : List Behaviour) where
     arm : (n : ℕ) → (arm_at hs ds x.bus n).0 ≡ (book_arm hs ds b n).0
     arm n = arm_answer_is hs x.bus.masters n ∙ (law.arming n ∙ sym (arm_answers hs b.entries n g.sound.kept))
 
-    run : (n : ℕ) (a : ℕ → Holds ds) → n ≤ most_ticks → (r : RunModel) → (run_at hs ds x.bus n a).0 ≡ Ok r → ((calls hs ds x (runs n a)).told ≡ x.told + r.outcomes) × (ticks_of_call hs ds x (runs n a) ≡ r.ticks)
+    run : (n : ℕ) (a : ℕ → HoldAnswers ds) → n ≤ most_ticks → (r : RunModel) → (run_at hs ds x.bus n a).0 ≡ Ok r → ((use_after_call hs ds x (runs n a)).told ≡ x.told + r.outcomes) × (ticks_of_call hs ds x (runs n a) ≡ r.ticks)
     run n a h r e =
         let few : ltb most_ticks n ≡ false = le-ltb most_ticks n h in
         let c = run_counts hs ds n 0 0 0 a x in
-        let end = goes_on hs ds n a (setting_out hs ds x.bus) in
-        let same : reported hs ds end ≡ r = let f : (run_at hs ds x.bus n a).0 ≡ Ok (reported hs ds end) = rw few in cc in
+        let end = run_after_ticks hs ds n a (run_start hs ds x.bus) in
+        let same : run_report hs ds end ≡ r = let f : (run_at hs ds x.bus n a).0 ≡ Ok (run_report hs ds end) = rw few in cc in
         let p = c.outcomes_are in
         let q = c.ticks_are in (
-          rw few (let t : (run_on hs ds n 0 a x).told ≡ x.told + end.outcomes = omega arith in t ∙ ap (λ m. x.told + m.outcomes) same),
+          rw few (let t : (use_after_ticks hs ds n 0 a x).told ≡ x.told + end.outcomes = omega arith in t ∙ ap (λ m. x.told + m.outcomes) same),
           rw few (let t : ticks_of_run hs ds n 0 a x ≡ end.ticks = omega arith in t ∙ ap (λ m. m.ticks) same),
         )
 
-    abbrev run_end : ℕ → (ℕ → Holds ds) → Running hs ds
-    run_end n a = goes_on hs ds n a (setting_out hs ds x.bus)
+    abbrev run_end : ℕ → (ℕ → HoldAnswers ds) → Running hs ds
+    run_end n a = run_after_ticks hs ds n a (run_start hs ds x.bus)
 
     leaves_either : (v : Bool) (y : Use hs ds) (r : Running hs ds) → y.bus ≡ r.bus →
-        (cond {A = Result RunModel ℕ × BusModel hs ds} v (Err 8, x.bus) (Ok (reported hs ds r), r.bus)).1 ≡ (cond v x y).bus
+        (cond {A = Result RunModel ℕ × BusModel hs ds} v (Err 8, x.bus) (Ok (run_report hs ds r), r.bus)).1 ≡ (cond v x y).bus
     leaves_either true y r e = refl
     leaves_either false y r e = sym e
 
-    run_leaves : (n : ℕ) (a : ℕ → Holds ds) → (run_at hs ds x.bus n a).1 ≡ (calls hs ds x (runs n a)).bus
-    run_leaves n a = leaves_either (ltb most_ticks n) (run_on hs ds n 0 a x) (run_end n a) (run_counts hs ds n 0 0 0 a x).bus_is
+    run_leaves : (n : ℕ) (a : ℕ → HoldAnswers ds) → (run_at hs ds x.bus n a).1 ≡ (use_after_call hs ds x (runs n a)).bus
+    run_leaves n a = leaves_either (ltb most_ticks n) (use_after_ticks hs ds n 0 a x) (run_end n a) (run_counts hs ds n 0 0 0 a x).bus_is
 
     lively : any_true (armed_now hs ds x) ≡ true → (cs : List (Call hs ds)) → most_ticks_of_turn ≤ ticks_of hs ds x cs →
-        x.told < (used hs ds x cs).told
+        x.told < (use_after hs ds x cs).told
     lively e cs h =
         let w = reached hs ds x cs g in
         let some : any (tasks hs b.entries) ≡ true = any_somes (tasks hs b.entries) ∙ (ap any_true (entries_armed hs b.entries g.sound.kept ∙ sym armed_same) ∙ e) in

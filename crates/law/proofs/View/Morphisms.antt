@@ -1,22 +1,22 @@
 -- Maps of meanings that commute with the steps of a device, and what goes the same way over them: ports, a script played alone, a transfer carried alone.
 use Rattle.std.proofs.Common.{◌≡◌, ℕ, zero, suc, Bool, true, false, cond, not, ◌||◌, List, [], ◌∷◌, Option, sym, refl, ap, ◌∙◌, le_refl, arith}
 use Rattle.transfer.specs.declared.leg.Direction.{Direction}
-use Rattle.transfer.specs.Drafts.{TransferModel}
-use Rattle.device.specs.Behaviours.{Behaviour}
+use Rattle.transfer.specs.Transfer.{TransferModel}
+use Rattle.device.specs.Device.{Behaviour}
 use Rattle.port.specs.declared.port.Mode.{Mode}
 use Rattle.port.specs.declared.port.Mode.TheVariants.{Out, Addressing}
-use Rattle.wire.specs.declared.wire.Event.{Event}
-use Rattle.wire.specs.Octets.{part}
-use Rattle.wire.specs.Wires.{both}
-use Rattle.port.specs.Ports.{PortModel, port_pulls, counts, settles, sees}
+use Rattle.wire.specs.declared.event.Event.{Event}
+use Rattle.wire.specs.ByteProgress.{progress}
+use Rattle.wire.specs.Pulls.{pulls_or}
+use Rattle.port.specs.Port.{PortModel, port_pulls, port_after_bit, port_after_finish, port_after_event}
 use Rattle.master.specs.declared.symbol.Symbol.{Symbol}
 use Rattle.master.specs.declared.symbol.Symbol.TheVariants.{Zero, One, Listen, RepeatedStart, Stop}
-use Rattle.master.specs.Cursors.{opening_of, outcome_of}
-use Rattle.master.specs.Scripts.{Script, transfers}
-use Rattle.law.specs.Banks.{Bank, each, listed}
-use Rattle.law.specs.Buses.{all_pulls}
-use Rattle.law.specs.Carrying.{Placed, carried}
-use Rattle.law.specs.Legal.{Legal}
+use Rattle.master.specs.Cursor.{new_cursor, outcome_of}
+use Rattle.master.specs.Script.{Script, transfers}
+use Rattle.law.specs.Bank.{Bank, bank_map, bank_list}
+use Rattle.law.specs.Bus.{all_pulls}
+use Rattle.law.specs.TransferResult.{AddressedDevice, transfer_result}
+use Rattle.law.specs.Legal.{IsLegal}
 use Rattle.law.proofs.Sides.{Side, ends, letter, heard, after, string, last, final}
 use Rattle.law.proofs.Alone.Banks.{any}
 use Rattle.law.proofs.Alone.CarriedAlone.{carried_alone}
@@ -40,26 +40,26 @@ Morphisms (b ∷ bs) [] = ⊥
 Morphisms (b ∷ bs) (c ∷ cs) = Morphism b c × Morphisms bs cs
 
 module _ (b c : Behaviour) (h : Morphism b c) where
-  abbrev pub placed_to : Placed b → Placed c
+  abbrev pub placed_to : AddressedDevice b → AddressedDevice c
   placed_to d = record { address = d.address; meaning = h.to d.meaning }
 
   abbrev pub port_to : PortModel b → PortModel c
   port_to p = record { address = p.address; meaning = h.to p.meaning; owed = p.owed; mode = p.mode; hold = p.hold }
 
-  pub counts_to : (p : PortModel b) (m : Mode) (x : Bool) (n : ℕ) → counts c (port_to p) m x n ≡ port_to (counts b p m x n)
+  pub counts_to : (p : PortModel b) (m : Mode) (x : Bool) (n : ℕ) → port_after_bit c (port_to p) m x n ≡ port_to (port_after_bit b p m x n)
   counts_to p m x n = grind (arith, h.selects, h.puts, h.takes)
 
   settles_if : (v : Bool) (m : b.Meaning) → cond v (c.finish (h.to m)) (h.to m) ≡ h.to (cond v (b.finish m) m)
   settles_if true m = h.finishes m
   settles_if false m = refl
 
-  pub settles_to : (p : PortModel b) (m : Mode) → settles c (port_to p) m ≡ port_to (settles b p m)
+  pub settles_to : (p : PortModel b) (m : Mode) → port_after_finish c (port_to p) m ≡ port_to (port_after_finish b p m)
   settles_to p m = ap (λ z. record { address = p.address; meaning = z; owed = false; mode = m; hold = p.hold }) (settles_if p.owed p.meaning)
 
-  pub sees_to : (p : PortModel b) (e : Event) (o : Option Bool) (n : ℕ) → sees c (port_to p) e o n ≡ port_to (sees b p e o n)
+  pub sees_to : (p : PortModel b) (e : Event) (o : Option Bool) (n : ℕ) → port_after_event c (port_to p) e o n ≡ port_to (port_after_event b p e o n)
   sees_to p e o n = grind (arith, counts_to p p.mode, settles_to p)
 
-abbrev pub devices_to : (bs cs : List Behaviour) → Morphisms bs cs → Bank Placed bs → Bank Placed cs
+abbrev pub devices_to : (bs cs : List Behaviour) → Morphisms bs cs → Bank AddressedDevice bs → Bank AddressedDevice cs
 devices_to [] [] h d = tt
 devices_to [] (c ∷ cs) h d = elim h [ ]
 devices_to (b ∷ bs) [] h d = elim h [ ]
@@ -71,17 +71,17 @@ ports_to [] (c ∷ cs) h s = elim h [ ]
 ports_to (b ∷ bs) [] h s = elim h [ ]
 ports_to (b ∷ bs) (c ∷ cs) h s = (port_to b c h.0 s.0, ports_to bs cs h.1 s.1)
 
-pub pulls_to : (bs cs : List Behaviour) (h : Morphisms bs cs) (s : Bank PortModel bs) → all_pulls (listed port_pulls cs (ports_to bs cs h s)) ≡ all_pulls (listed port_pulls bs s)
+pub pulls_to : (bs cs : List Behaviour) (h : Morphisms bs cs) (s : Bank PortModel bs) → all_pulls (bank_list port_pulls cs (ports_to bs cs h s)) ≡ all_pulls (bank_list port_pulls bs s)
 pulls_to [] [] h s = refl
 pulls_to [] (c ∷ cs) h s = elim h [ ]
 pulls_to (b ∷ bs) [] h s = elim h [ ]
-pulls_to (b ∷ bs) (c ∷ cs) h s = ap (both (port_pulls b s.0)) (pulls_to bs cs h.1 s.1)
+pulls_to (b ∷ bs) (c ∷ cs) h s = ap (pulls_or (port_pulls b s.0)) (pulls_to bs cs h.1 s.1)
 
 abbrev pub port_places : (ds : List Behaviour) → Bank PortModel ds → List ℕ
-port_places ds s = listed (λ b p. p.address) ds s
+port_places ds s = bank_list (λ b p. p.address) ds s
 
-abbrev pub device_places : (ds : List Behaviour) → Bank Placed ds → List ℕ
-device_places ds d = listed (λ b p. p.address) ds d
+abbrev pub device_places : (ds : List Behaviour) → Bank AddressedDevice ds → List ℕ
+device_places ds d = bank_list (λ b p. p.address) ds d
 
 pub places_to : (bs cs : List Behaviour) (h : Morphisms bs cs) (s : Bank PortModel bs) → port_places cs (ports_to bs cs h s) ≡ port_places bs s
 places_to [] [] h s = refl
@@ -90,13 +90,13 @@ places_to (b ∷ bs) [] h s = elim h [ ]
 places_to (b ∷ bs) (c ∷ cs) h s = ap (λ l. s.0.address ∷ l) (places_to bs cs h.1 s.1)
 
 -- the side
-pub side_bit : (bs cs : List Behaviour) (h : Morphisms bs cs) (s : Bank PortModel bs) (x : Bool) → each (counting x) cs (ports_to bs cs h s) ≡ ports_to bs cs h (each (counting x) bs s)
+pub side_bit : (bs cs : List Behaviour) (h : Morphisms bs cs) (s : Bank PortModel bs) (x : Bool) → bank_map (counting x) cs (ports_to bs cs h s) ≡ ports_to bs cs h (bank_map (counting x) bs s)
 side_bit [] [] h s x = refl
 side_bit [] (c ∷ cs) h s x = elim h [ ]
 side_bit (b ∷ bs) [] h s x = elim h [ ]
 side_bit (b ∷ bs) (c ∷ cs) h s x = λ i. (counts_to b c h.0 s.0 s.0.mode x 0 i, side_bit bs cs h.1 s.1 x i)
 
-pub side_settles : (bs cs : List Behaviour) (h : Morphisms bs cs) (s : Bank PortModel bs) (m : Mode) → each (λ b p. settles b p m) cs (ports_to bs cs h s) ≡ ports_to bs cs h (each (λ b p. settles b p m) bs s)
+pub side_settles : (bs cs : List Behaviour) (h : Morphisms bs cs) (s : Bank PortModel bs) (m : Mode) → bank_map (λ b p. port_after_finish b p m) cs (ports_to bs cs h s) ≡ ports_to bs cs h (bank_map (λ b p. port_after_finish b p m) bs s)
 side_settles [] [] h s m = refl
 side_settles [] (c ∷ cs) h s m = elim h [ ]
 side_settles (b ∷ bs) [] h s m = elim h [ ]
@@ -121,7 +121,7 @@ side_to bs cs h = record {
   to = ports_to bs cs h;
   pulls = side_pulling bs cs h;
   bit = side_bit bs cs h;
-  begin = λ s. side_settles bs cs h s (Addressing (part 0 0));
+  begin = λ s. side_settles bs cs h s (Addressing (progress 0 0));
   finish = λ s. side_settles bs cs h s Out;
 }
 
@@ -171,42 +171,42 @@ module _ (W : Script) (D E : Side) (h : SideMorphism D E) where
       ∙ ap (λ f. cond (ends x) c f) (final_to n q (after D x s))
 
 -- idle ports by their devices
-pub devices_of_idle : (ds : List Behaviour) (d : Bank Placed ds) → each placed ds (idle_ports ds d) ≡ d
+pub devices_of_idle : (ds : List Behaviour) (d : Bank AddressedDevice ds) → bank_map placed ds (idle_ports ds d) ≡ d
 devices_of_idle [] d = refl
 devices_of_idle (b ∷ ds) d = ap (λ r. (d.0, r)) (devices_of_idle ds d.1)
 
-pub idle_same : (ds : List Behaviour) (d e : Bank Placed ds) → idle_ports ds d ≡ idle_ports ds e → d ≡ e
-idle_same ds d e q = sym (devices_of_idle ds d) ∙ (ap (each placed ds) q ∙ devices_of_idle ds e)
+pub idle_same : (ds : List Behaviour) (d e : Bank AddressedDevice ds) → idle_ports ds d ≡ idle_ports ds e → d ≡ e
+idle_same ds d e q = sym (devices_of_idle ds d) ∙ (ap (bank_map placed ds) q ∙ devices_of_idle ds e)
 
-pub idle_to : (bs cs : List Behaviour) (h : Morphisms bs cs) (d : Bank Placed bs) → idle_ports cs (devices_to bs cs h d) ≡ ports_to bs cs h (idle_ports bs d)
+pub idle_to : (bs cs : List Behaviour) (h : Morphisms bs cs) (d : Bank AddressedDevice bs) → idle_ports cs (devices_to bs cs h d) ≡ ports_to bs cs h (idle_ports bs d)
 idle_to [] [] h d = refl
 idle_to [] (c ∷ cs) h d = elim h [ ]
 idle_to (b ∷ bs) [] h d = elim h [ ]
 idle_to (b ∷ bs) (c ∷ cs) h d = λ i. (port_to b c h.0 (idle_ports (b ∷ bs) d).0, idle_to bs cs h.1 d.1 i)
 
 module _ (bs cs : List Behaviour) (h : Morphisms bs cs) where
-  pub opened_to : (d : Bank Placed bs) → opened_ports cs (devices_to bs cs h d) ≡ ports_to bs cs h (opened_ports bs d)
+  pub opened_to : (d : Bank AddressedDevice bs) → opened_ports cs (devices_to bs cs h d) ≡ ports_to bs cs h (opened_ports bs d)
   opened_to d = ap (ports_side cs).begin (idle_to bs cs h d) ∙ (side_to bs cs h).begin (idle_ports bs d)
 
   -- after some slots of a transfer alone
-  pub played_to : (n : ℕ) (t : TransferModel) (d : Bank Placed bs) →
-      last transfers (ports_side cs) n (opening_of t) (opened_ports cs (devices_to bs cs h d)) ≡ ports_to bs cs h (last transfers (ports_side bs) n (opening_of t) (opened_ports bs d))
-  played_to n t d = ap (last transfers (ports_side cs) n (opening_of t)) (opened_to d) ∙ last_to transfers (ports_side bs) (ports_side cs) (side_to bs cs h) n (opening_of t) (opened_ports bs d)
+  pub played_to : (n : ℕ) (t : TransferModel) (d : Bank AddressedDevice bs) →
+      last transfers (ports_side cs) n (new_cursor t) (opened_ports cs (devices_to bs cs h d)) ≡ ports_to bs cs h (last transfers (ports_side bs) n (new_cursor t) (opened_ports bs d))
+  played_to n t d = ap (last transfers (ports_side cs) n (new_cursor t)) (opened_to d) ∙ last_to transfers (ports_side bs) (ports_side cs) (side_to bs cs h) n (new_cursor t) (opened_ports bs d)
 
-  pub spelled_to : (n : ℕ) (t : TransferModel) (d : Bank Placed bs) →
-      string transfers (ports_side cs) n (opening_of t) (opened_ports cs (devices_to bs cs h d)) ≡ string transfers (ports_side bs) n (opening_of t) (opened_ports bs d)
-  spelled_to n t d = ap (string transfers (ports_side cs) n (opening_of t)) (opened_to d) ∙ string_to transfers (ports_side bs) (ports_side cs) (side_to bs cs h) n (opening_of t) (opened_ports bs d)
+  pub spelled_to : (n : ℕ) (t : TransferModel) (d : Bank AddressedDevice bs) →
+      string transfers (ports_side cs) n (new_cursor t) (opened_ports cs (devices_to bs cs h d)) ≡ string transfers (ports_side bs) n (new_cursor t) (opened_ports bs d)
+  spelled_to n t d = ap (string transfers (ports_side cs) n (new_cursor t)) (opened_to d) ∙ string_to transfers (ports_side bs) (ports_side cs) (side_to bs cs h) n (new_cursor t) (opened_ports bs d)
 
-  module _ (t : TransferModel) (d : Bank Placed bs) (k : Legal t) where
+  module _ (t : TransferModel) (d : Bank AddressedDevice bs) (k : IsLegal t) where
     abbrev n : ℕ
-    n = slots_left (opening_of t)
+    n = slots_left (new_cursor t)
 
-    pub carried_devices : (carried cs t (devices_to bs cs h d)).devices ≡ devices_to bs cs h (carried bs t d).devices
-    carried_devices = idle_same cs (carried cs t (devices_to bs cs h d)).devices (devices_to bs cs h (carried bs t d).devices)
+    pub carried_devices : (transfer_result cs t (devices_to bs cs h d)).devices ≡ devices_to bs cs h (transfer_result bs t d).devices
+    carried_devices = idle_same cs (transfer_result cs t (devices_to bs cs h d)).devices (devices_to bs cs h (transfer_result bs t d).devices)
         (sym (carried_alone cs t (devices_to bs cs h d) n k (le_refl n)).same_devices
-        ∙ (played_to n t d ∙ (ap (ports_to bs cs h) (carried_alone bs t d n k (le_refl n)).same_devices ∙ sym (idle_to bs cs h (carried bs t d).devices))))
+        ∙ (played_to n t d ∙ (ap (ports_to bs cs h) (carried_alone bs t d n k (le_refl n)).same_devices ∙ sym (idle_to bs cs h (transfer_result bs t d).devices))))
 
-    pub carried_outcome : (carried cs t (devices_to bs cs h d)).outcome ≡ (carried bs t d).outcome
+    pub carried_outcome : (transfer_result cs t (devices_to bs cs h d)).outcome ≡ (transfer_result bs t d).outcome
     carried_outcome = sym (carried_alone cs t (devices_to bs cs h d) n k (le_refl n)).same_outcome
-        ∙ (ap outcome_of (ap (final transfers (ports_side cs) n (opening_of t)) (opened_to d) ∙ final_to transfers (ports_side bs) (ports_side cs) (side_to bs cs h) n (opening_of t) (opened_ports bs d))
+        ∙ (ap outcome_of (ap (final transfers (ports_side cs) n (new_cursor t)) (opened_to d) ∙ final_to transfers (ports_side bs) (ports_side cs) (side_to bs cs h) n (new_cursor t) (opened_ports bs d))
         ∙ (carried_alone bs t d n k (le_refl n)).same_outcome)

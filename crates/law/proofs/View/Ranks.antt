@@ -3,12 +3,12 @@ use Rattle.std.proofs.Common.{◌≡◌, ℕ, zero, suc, ◌<◌, List, [], ◌�
 use Rattle.std.proofs.lemmas.List.{length-map}
 use Rattle.std.proofs.Math.ListN.{get_or-map}
 use Rattle.std.specs.Option.{option_map}
-use Rattle.transfer.specs.Drafts.{TransferModel}
-use Rattle.device.specs.Behaviours.{Behaviour}
-use Rattle.law.specs.Banks.{Bank}
-use Rattle.law.specs.Carrying.{Placed, Carried}
-use Rattle.law.specs.Laws.{FirstDifference}
-use Rattle.law.specs.Strings.{Letter, zero as low, rank}
+use Rattle.transfer.specs.Transfer.{TransferModel}
+use Rattle.device.specs.Device.{Behaviour}
+use Rattle.law.specs.Bank.{Bank}
+use Rattle.law.specs.TransferResult.{AddressedDevice, TransferResult}
+use Rattle.law.specs.Law.{FirstDifference}
+use Rattle.law.specs.Letter.{Letter, zero as low, rank}
 use Rattle.law.proofs.Alone.StringLaws.{same_rank}
 use Rattle.law.proofs.Law.Race.{at, First}
 use Rattle.law.proofs.View.Carries.{carry, carry_all}
@@ -26,13 +26,13 @@ first_difference ts us xs ys c e f d = record {
   at_u : (k : ℕ) → get_or ys k 0 ≡ rank (get_or us k low)
   at_u k = ap (λ l. get_or l k 0) f ∙ get_or-map rank us k low
 
-module _ (ds : List Behaviour) (d : Bank Placed ds) where
-  mapped_some : (o : Option TransferModel) (c : Carried ds) → option_map (carry ds d) o ≡ Some c → (t : TransferModel) × (o ≡ Some t) × (c ≡ carry ds d t)
+module _ (ds : List Behaviour) (d : Bank AddressedDevice ds) where
+  mapped_some : (o : Option TransferModel) (c : TransferResult ds) → option_map (carry ds d) o ≡ Some c → (t : TransferModel) × (o ≡ Some t) × (c ≡ carry ds d t)
   mapped_some None c e = cc
   mapped_some (Some t) c e = (t, refl, let f : c ≡ carry ds d t = cc in f)
 
   -- who is carried is a contender
-  pub carried_from : (l : List (Option TransferModel)) (i : ℕ) (c : Carried ds) → get_or (carry_all ds d l) i None ≡ Some c → (t : TransferModel) × (at l i ≡ Some t) × (c ≡ carry ds d t)
+  pub carried_from : (l : List (Option TransferModel)) (i : ℕ) (c : TransferResult ds) → get_or (carry_all ds d l) i None ≡ Some c → (t : TransferModel) × (at l i ≡ Some t) × (c ≡ carry ds d t)
   carried_from [] i c e = cc
   carried_from (o ∷ l) zero c e = mapped_some o c e
   carried_from (o ∷ l) (suc i) c e = carried_from l i c e

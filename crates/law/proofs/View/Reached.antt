@@ -1,11 +1,11 @@
 -- Any calls, runs too, as steps of the machine of the law.
 use Rattle.std.proofs.Common.{◌≡◌, ℕ, zero, suc, ◌+◌, Bool, cond, ltb, List, [], ◌∷◌, ◌++◌, sym, refl, ap, ◌∙◌, subst, arith}
-use Rattle.device.specs.Behaviours.{Behaviour}
-use Rattle.host.specs.Behaviours.{HostBehaviour}
-use Rattle.law.specs.Buses.{Holds, is_at_rest}
-use Rattle.law.specs.Laws.{Call, arms, ticks, runs, Use, ticks_once, run_on, calls, used, ticks_of_run, ticks_of_call, ticks_of}
+use Rattle.device.specs.Device.{Behaviour}
+use Rattle.host.specs.Host.{HostBehaviour}
+use Rattle.law.specs.Bus.{HoldAnswers, is_at_rest}
+use Rattle.law.specs.Law.{Call, arms, ticks, runs, Use, use_after_tick, use_after_ticks, use_after_call, use_after, ticks_of_run, ticks_of_call, ticks_of}
 use Rattle.law.specs.Limits.{most_ticks}
-use Rattle.master.specs.Scripts.{transfers}
+use Rattle.master.specs.Script.{transfers}
 use Rattle.law.proofs.Alone.PortsSide.{ports_side}
 use Rattle.law.proofs.Law.Uses.{Step, arms as step_arms, ticks as step_ticks, Use as LawUse, Held, ticks_of as steps_ticks}
 use Rattle.law.proofs.View.Hosting.{all_hosts}
@@ -50,10 +50,10 @@ module _ (hs : List HostBehaviour) (ds : List Behaviour) where
   counted : (x y : Use hs ds) (m n : ℕ) → m ≡ n → Reaches x y m → Reaches x y n
   counted x y m n e p = subst (Reaches x y) e p
 
-  armed : (x : Use hs ds) (n : ℕ) → Good hs ds x → Reaches x (calls hs ds x (arms n)) 0
+  armed : (x : Use hs ds) (n : ℕ) → Good hs ds x → Reaches x (use_after_call hs ds x (arms n)) 0
   armed x n k = record { steps = step_arms n ∷ []; as_law = armed_as hs ds x n; good = armed_good hs ds x n k; held = tt; in_ticks = refl }
 
-  ticked : (x : Use hs ds) (a : Holds ds) → Good hs ds x → Reaches x (ticks_once hs ds x a) 1
+  ticked : (x : Use hs ds) (a : HoldAnswers ds) → Good hs ds x → Reaches x (use_after_tick hs ds x a) 1
   ticked x a k = record {
     steps = step_ticks (answer_at hs ds x.bus a) ∷ [];
     as_law = ticked_as hs ds x a k;
@@ -65,23 +65,23 @@ module _ (hs : List HostBehaviour) (ds : List Behaviour) where
   either : (v : Bool) (x y : Use hs ds) (n : ℕ) → Good hs ds x → Reaches x y n → Reaches x (cond v x y) (cond v 0 n)
   either v x y n h k = grind arith
 
-  ran : (n k : ℕ) (a : ℕ → Holds ds) (x : Use hs ds) → Good hs ds x → Reaches x (run_on hs ds n k a x) (ticks_of_run hs ds n k a x)
+  ran : (n k : ℕ) (a : ℕ → HoldAnswers ds) (x : Use hs ds) → Good hs ds x → Reaches x (use_after_ticks hs ds n k a x) (ticks_of_run hs ds n k a x)
   ran zero k a x g = nowhere x g
   ran (suc n) k a x g =
-      let y = ticks_once hs ds x (a k) in
+      let y = use_after_tick hs ds x (a k) in
       let one = ticked x (a k) g in
       let more = ran n (suc k) a y one.good in
       let m = ticks_of_run hs ds n (suc k) a y in
-      either (is_at_rest hs ds x.bus) x (run_on hs ds n (suc k) a y) (suc m) g (counted x (run_on hs ds n (suc k) a y) (1 + m) (suc m) (omega arith) (onward x y (run_on hs ds n (suc k) a y) 1 m one more))
+      either (is_at_rest hs ds x.bus) x (use_after_ticks hs ds n (suc k) a y) (suc m) g (counted x (use_after_ticks hs ds n (suc k) a y) (1 + m) (suc m) (omega arith) (onward x y (use_after_ticks hs ds n (suc k) a y) 1 m one more))
 
-  called : (x : Use hs ds) (c : Call hs ds) → Good hs ds x → Reaches x (calls hs ds x c) (ticks_of_call hs ds x c)
+  called : (x : Use hs ds) (c : Call hs ds) → Good hs ds x → Reaches x (use_after_call hs ds x c) (ticks_of_call hs ds x c)
   called x (arms n) k = armed x n k
   called x (ticks a) k = ticked x a k
-  called x (runs n a) k = either (ltb most_ticks n) x (run_on hs ds n 0 a x) (ticks_of_run hs ds n 0 a x) k (ran n 0 a x k)
+  called x (runs n a) k = either (ltb most_ticks n) x (use_after_ticks hs ds n 0 a x) (ticks_of_run hs ds n 0 a x) k (ran n 0 a x k)
 
-  pub reached : (x : Use hs ds) (cs : List (Call hs ds)) → Good hs ds x → Reaches x (used hs ds x cs) (ticks_of hs ds x cs)
+  pub reached : (x : Use hs ds) (cs : List (Call hs ds)) → Good hs ds x → Reaches x (use_after hs ds x cs) (ticks_of hs ds x cs)
   reached x [] k = nowhere x k
   reached x (c ∷ cs) k =
-      let y = calls hs ds x c in
+      let y = use_after_call hs ds x c in
       let one = called x c k in
-      onward x y (used hs ds y cs) (ticks_of_call hs ds x c) (ticks_of hs ds y cs) one (reached y cs one.good)
+      onward x y (use_after hs ds y cs) (ticks_of_call hs ds x c) (ticks_of hs ds y cs) one (reached y cs one.good)

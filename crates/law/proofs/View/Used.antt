@@ -1,14 +1,15 @@
 -- A use of the bus as a use of the machine of the law, call by call.
 use Rattle.std.proofs.Common.{◌≡◌, ℕ, zero, suc, ◌+◌, cond, List, [], ◌∷◌, is_ok, Result, refl, ap, ◌∙◌, ap₂, arith}
-use Rattle.device.specs.Behaviours.{Behaviour}
-use Rattle.host.specs.Behaviours.{HostBehaviour}
+use Rattle.device.specs.Device.{Behaviour}
+use Rattle.host.specs.Host.{HostBehaviour}
 use Rattle.wire.specs.declared.wire.Signal.{Signal}
-use Rattle.law.specs.Banks.{Bank, each}
-use Rattle.law.specs.Buses.{arm_nth, Holds, BusModel, levels_at, told_at}
-use Rattle.master.specs.Serving.{Served, served_step}
-use Rattle.law.specs.Laws.{arms, Use, event_at, marks_of, watched, notes_lost, ticks_once, calls}
-use Rattle.master.specs.Scripts.{transfers}
-use Rattle.wire.specs.Wires.{event, signal}
+use Rattle.law.specs.Bank.{Bank, bank_map}
+use Rattle.law.specs.Bus.{arm_master_at, HoldAnswers, BusModel, levels_at, told_at}
+use Rattle.master.specs.Master.{HostedMaster, hosted_step}
+use Rattle.law.specs.Law.{arms, Use, event_at, marks_of, monitor_after, monitor_after_marks, use_after_tick, use_after_call}
+use Rattle.master.specs.Script.{transfers}
+use Rattle.wire.specs.Event.{event_between}
+use Rattle.wire.specs.Wire.{signal}
 use Rattle.law.proofs.Alone.PortsSide.{ports_side}
 use Rattle.law.proofs.Alone.SlotsLeft.{slots_left}
 use Rattle.law.proofs.Law.Machine.{Bus, verdicts, tick_event, tick_verdicts}
@@ -18,24 +19,24 @@ use Rattle.law.proofs.View.Hosting.{Meanings, wants_of, hears_all, all_hosts}
 use Rattle.law.proofs.View.Seen.{masters_of, seen, LetGo, levels_seen, answer_at, tick_seen, still_let_go}
 use Rattle.law.proofs.View.Watched.{noted_as, watched_as, marked_as, told_as, how_many_is}
 
-abbrev pub meaning_served : (h : HostBehaviour) → Served h → h.Meaning
+abbrev pub meaning_served : (h : HostBehaviour) → HostedMaster h → h.Meaning
 meaning_served h x = x.meaning
 
-abbrev pub hosts_of : (hs : List HostBehaviour) → Bank Served hs → Meanings hs
-hosts_of hs ms = each meaning_served hs ms
+abbrev pub hosts_of : (hs : List HostBehaviour) → Bank HostedMaster hs → Meanings hs
+hosts_of hs ms = bank_map meaning_served hs ms
 
 -- arms
-pub arm_hosts : (hs : List HostBehaviour) (ms : Bank Served hs) (n : ℕ) → hosts_of hs (arm_nth hs ms n).1 ≡ hosts_of hs ms
+pub arm_hosts : (hs : List HostBehaviour) (ms : Bank HostedMaster hs) (n : ℕ) → hosts_of hs (arm_master_at hs ms n).1 ≡ hosts_of hs ms
 arm_hosts [] ms n = refl
 arm_hosts (h ∷ hs) ms zero = refl
 arm_hosts (h ∷ hs) ms (suc n) = ap (λ r. (ms.0.meaning, r)) (arm_hosts hs ms.1 n)
 
-pub arm_masters_are : (hs : List HostBehaviour) (ms : Bank Served hs) (n : ℕ) → masters_of hs (arm_nth hs ms n).1 ≡ arm_masters transfers (masters_of hs ms) (wants_of hs (hosts_of hs ms)) n
+pub arm_masters_are : (hs : List HostBehaviour) (ms : Bank HostedMaster hs) (n : ℕ) → masters_of hs (arm_master_at hs ms n).1 ≡ arm_masters transfers (masters_of hs ms) (wants_of hs (hosts_of hs ms)) n
 arm_masters_are [] ms n = refl
 arm_masters_are (h ∷ hs) ms zero = refl
 arm_masters_are (h ∷ hs) ms (suc n) = ap (λ l. ms.0.master ∷ l) (arm_masters_are hs ms.1 n)
 
-pub arm_answer_is : (hs : List HostBehaviour) (ms : Bank Served hs) (n : ℕ) → (arm_nth hs ms n).0 ≡ arm_answer transfers (masters_of hs ms) (wants_of hs (hosts_of hs ms)) n
+pub arm_answer_is : (hs : List HostBehaviour) (ms : Bank HostedMaster hs) (n : ℕ) → (arm_master_at hs ms n).0 ≡ arm_answer transfers (masters_of hs ms) (wants_of hs (hosts_of hs ms)) n
 arm_answer_is [] ms n = refl
 arm_answer_is (h ∷ hs) ms zero = refl
 arm_answer_is (h ∷ hs) ms (suc n) = arm_answer_is hs ms.1 n
@@ -44,7 +45,7 @@ accepted_is : (r : Result (Unit {0}) ℕ) → cond (is_ok r) 1 0 ≡ accepted r
 accepted_is r = grind arith
 
 -- ticks
-step_hosts : (hs : List HostBehaviour) (ms : Bank Served hs) (s : Signal) → hosts_of hs (each (λ h. served_step h s) hs ms) ≡ hears_all hs (hosts_of hs ms) (tellings transfers (verdicts transfers (masters_of hs ms) s))
+step_hosts : (hs : List HostBehaviour) (ms : Bank HostedMaster hs) (s : Signal) → hosts_of hs (bank_map (λ h. hosted_step h s) hs ms) ≡ hears_all hs (hosts_of hs ms) (tellings transfers (verdicts transfers (masters_of hs ms) s))
 step_hosts [] ms s = refl
 step_hosts (h ∷ hs) ms s = grind (arith, step_hosts hs)
 
@@ -66,29 +67,29 @@ module _ (hs : List HostBehaviour) (ds : List Behaviour) where
   law_uses x ts = uses transfers (ports_side ds) slots_left (all_hosts hs) x ts
 
   pub event_seen : (u : BusModel hs ds) → event_at hs ds u ≡ tick_event transfers (ports_side ds) (seen hs ds u)
-  event_seen u = ap (event u.wire.last) (levels_seen hs ds u)
+  event_seen u = ap (event_between u.wire.last) (levels_seen hs ds u)
 
   pub told_seen : (u : BusModel hs ds) → told_at hs ds u ≡ tick_tells transfers (ports_side ds) (seen hs ds u)
   told_seen u = told_as hs u.masters (signal u.wire (levels_at hs ds u))
       ∙ ap (λ v. tellings transfers (verdicts transfers (masters_of hs u.masters) (signal u.wire v))) (levels_seen hs ds u)
 
-  pub armed_as : (x : Use hs ds) (n : ℕ) → used_as (calls hs ds x (arms n)) ≡ law_does (used_as x) (step_arms n)
+  pub armed_as : (x : Use hs ds) (n : ℕ) → used_as (use_after_call hs ds x (arms n)) ≡ law_does (used_as x) (step_arms n)
   armed_as x n =
       let ms = x.bus.masters in
-      let same = ap (λ a. x.accepted + a) (accepted_is (arm_nth hs ms n).0 ∙ ap accepted (arm_answer_is hs ms n)) in
+      let same = ap (λ a. x.accepted + a) (accepted_is (arm_master_at hs ms n).0 ∙ ap accepted (arm_answer_is hs ms n)) in
       let bus = ap (λ l. record { wire = x.bus.wire; masters = l; side = (seen hs ds x.bus).side; hold = (seen hs ds x.bus).hold }) (arm_masters_are hs ms n) in
       λ i. law_use (arm_hosts hs ms n i) (bus i) (armed_booked hs ds x.book n i) (noted_as x.watch) (same i) x.told
 
-  pub armed_good : (x : Use hs ds) (n : ℕ) → Good x → Good (calls hs ds x (arms n))
+  pub armed_good : (x : Use hs ds) (n : ℕ) → Good x → Good (use_after_call hs ds x (arms n))
   armed_good x n k = record { let_go = k.let_go; sound = armed_sound hs ds x.book n k.sound }
 
   watch_as : (x : Use hs ds) → Sound hs ds x.book →
-      noted_as (notes_lost (watched hs ds x.watch x.book (event_at hs ds x.bus)) (marks_of hs ds x.bus)) ≡
+      noted_as (monitor_after_marks (monitor_after hs ds x.watch x.book (event_at hs ds x.bus)) (marks_of hs ds x.bus)) ≡
       noted transfers (turned transfers (noted_as x.watch) (tasks hs x.book.entries) (turn_if x.book.turn (contenders hs x.book.entries)) (tick_event transfers (ports_side ds) (seen hs ds x.bus)))
       (tick_verdicts transfers (ports_side ds) (seen hs ds x.bus))
   watch_as x k =
       let u = x.bus in
-      let w = watched hs ds x.watch x.book (event_at hs ds u) in
+      let w = monitor_after hs ds x.watch x.book (event_at hs ds u) in
       let v = levels_at hs ds u in
       let marked = marked_as hs u.masters (signal u.wire v) w.marked in
       ap (λ l. record { falls = w.falls; risen = w.risen; marked = l; spelling = (noted_as w).spelling }) marked
@@ -96,7 +97,7 @@ module _ (hs : List HostBehaviour) (ds : List Behaviour) where
       ∙ ap₂ (λ e z. noted transfers (turned transfers (noted_as x.watch) (tasks hs x.book.entries) (turn_if x.book.turn (contenders hs x.book.entries)) e) (verdicts transfers (masters_of hs u.masters) (signal u.wire z)))
       (event_seen u) (levels_seen hs ds u))
 
-  pub ticked_as : (x : Use hs ds) (a : Holds ds) → Good x → used_as (ticks_once hs ds x a) ≡ law_does (used_as x) (step_ticks (answer_at hs ds x.bus a))
+  pub ticked_as : (x : Use hs ds) (a : HoldAnswers ds) → Good x → used_as (use_after_tick hs ds x a) ≡ law_does (used_as x) (step_ticks (answer_at hs ds x.bus a))
   ticked_as x a k =
       let u = x.bus in
       let s = signal u.wire (levels_at hs ds u) in
@@ -105,5 +106,5 @@ module _ (hs : List HostBehaviour) (ds : List Behaviour) where
       let told = ap (λ n. x.told + n) (how_many_is (told_at hs ds u) ∙ ap count (told_seen u)) in
       λ i. law_use (hosts i) (tick_seen hs ds u a k.let_go i) (book i) (watch_as x k.sound i) x.accepted (told i)
 
-  pub ticked_good : (x : Use hs ds) (a : Holds ds) → Good x → Good (ticks_once hs ds x a)
+  pub ticked_good : (x : Use hs ds) (a : HoldAnswers ds) → Good x → Good (use_after_tick hs ds x a)
   ticked_good x a k = record { let_go = still_let_go hs ds x.bus a k.let_go; sound = fed_sound hs ds x.book (event_at hs ds x.bus) k.sound }

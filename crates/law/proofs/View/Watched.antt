@@ -1,33 +1,33 @@
 -- What the watcher notes, as the watcher of the law notes it.
 use Rattle.std.proofs.lemmas.List.Sums.{sum_by-cons}
 use Rattle.std.proofs.Common.{◌≡◌, ℕ, zero, suc, Bool, true, false, cond, List, [], ◌∷◌, ◌++◌, map, Some, None, Option, sym, refl, ap, ◌∙◌, arith, is_some}
-use Rattle.transfer.specs.Drafts.{TransferModel}
-use Rattle.device.specs.Behaviours.{Behaviour}
-use Rattle.host.specs.Behaviours.{HostBehaviour}
-use Rattle.wire.specs.declared.wire.Event.{Event}
-use Rattle.wire.specs.declared.wire.Event.TheVariants.{Rise, Fall, Start, Stop, SteadyHigh, SteadyLow}
+use Rattle.transfer.specs.Transfer.{TransferModel}
+use Rattle.device.specs.Device.{Behaviour}
+use Rattle.host.specs.Host.{HostBehaviour}
+use Rattle.wire.specs.declared.event.Event.{Event}
+use Rattle.wire.specs.declared.event.Event.TheVariants.{Rise, Fall, Start, Stop, SteadyHigh, SteadyLow}
 use Rattle.wire.specs.declared.wire.Signal.{Signal}
-use Rattle.law.specs.Banks.{Bank, each, listed, any_true}
-use Rattle.law.specs.Books.{Entry, enters, entry_armed, Turn, closed, opened, is_open, Book, book_after}
-use Rattle.master.specs.Serving.{Served, served_mark, served_told, outcome_told}
-use Rattle.law.specs.Laws.{Watch, watching, sees, starts_again, marked_too, watched}
-use Rattle.master.specs.Masters.{VerdictModel}
-use Rattle.law.specs.Runs.{how_many}
-use Rattle.master.specs.Scripts.{transfers}
-use Rattle.law.specs.Strings.{Letter, stop, restart, rank, bit_letter}
-use Rattle.law.proofs.Law.Uses.{count, Watch as LawWatch, watch, spell, fallen, restarted, falses, turned, marks_too, telling, tellings}
+use Rattle.law.specs.Bank.{Bank, bank_map, bank_list, any_true}
+use Rattle.law.specs.Book.{Entry, entry_contending, entry_is_armed, Turn, closed, opened, is_open, Book, book_after}
+use Rattle.master.specs.Master.{HostedMaster, hosted_mark, hosted_told, told_outcome}
+use Rattle.law.specs.Law.{Monitor, monitor_with, monitor_after_event, monitor_after_start, lost_after, monitor_after}
+use Rattle.master.specs.MasterState.{VerdictModel}
+use Rattle.law.specs.Run.{some_count}
+use Rattle.master.specs.Script.{transfers}
+use Rattle.law.specs.Letter.{Letter, stop, restart, rank, bit_letter}
+use Rattle.law.proofs.Law.Uses.{count, Monitor as LawWatch, watch, spell, fallen, restarted, falses, turned, marks_too, telling, tellings}
 use Rattle.law.proofs.Law.Machine.{verdicts}
 use Rattle.law.proofs.View.Booked.{tasks, contenders, turn_if, Kept, any_armed, Sound}
 use Rattle.law.proofs.View.Seen.{masters_of}
 
-abbrev pub noted_as : Watch → LawWatch
+abbrev pub noted_as : Monitor → LawWatch
 noted_as w = watch w.falls w.risen w.marked (spell w.latch (map rank w.spelled))
 
 ranks_append : (ts us : List Letter) → map rank (ts ++ us) ≡ map rank ts ++ map rank us
 ranks_append [] us = refl
 ranks_append (t ∷ ts) us = ap (λ l. rank t ∷ l) (ranks_append ts us)
 
-falls_as : (w : Watch) (o : Option Bool) → w.latch ≡ o → noted_as (sees (watching w.falls w.risen w.marked o w.spelled) Fall) ≡ watch (suc w.falls) false w.marked (fallen o (map rank w.spelled))
+falls_as : (w : Monitor) (o : Option Bool) → w.latch ≡ o → noted_as (monitor_after_event (monitor_with w.falls w.risen w.marked o w.spelled) Fall) ≡ watch (suc w.falls) false w.marked (fallen o (map rank w.spelled))
 falls_as w None e = ap (λ l. watch (suc w.falls) false w.marked (spell None l)) (append_none w.spelled) where
   append_none : (ts : List Letter) → map rank (ts ++ []) ≡ map rank ts
   append_none [] = refl
@@ -35,12 +35,12 @@ falls_as w None e = ap (λ l. watch (suc w.falls) false w.marked (spell None l))
 falls_as w (Some true) e = ap (λ l. watch (suc w.falls) false w.marked (spell None l)) (ranks_append w.spelled (bit_letter true ∷ []))
 falls_as w (Some false) e = ap (λ l. watch (suc w.falls) false w.marked (spell None l)) (ranks_append w.spelled (bit_letter false ∷ []))
 
-starts_as : (w : Watch) (n : ℕ) → noted_as (starts_again n w) ≡ watch w.falls w.risen w.marked (restarted n (spell w.latch (map rank w.spelled)))
+starts_as : (w : Monitor) (n : ℕ) → noted_as (monitor_after_start n w) ≡ watch w.falls w.risen w.marked (restarted n (spell w.latch (map rank w.spelled)))
 starts_as w zero = refl
 starts_as w (suc n) = ap (λ l. watch w.falls w.risen w.marked (spell None l)) (ranks_append w.spelled (restart ∷ []))
 
 -- an event that opens no turn
-sees_as : (w : Watch) (os : List (Option TransferModel)) (l : List (Option TransferModel)) (e : Event) → noted_as (sees w e) ≡ turned transfers (noted_as w) os (Some l) e
+sees_as : (w : Monitor) (os : List (Option TransferModel)) (l : List (Option TransferModel)) (e : Event) → noted_as (monitor_after_event w e) ≡ turned transfers (noted_as w) os (Some l) e
 sees_as w os l Fall = falls_as w w.latch refl
 sees_as w os l (Rise b) = refl
 sees_as w os l Start = starts_as w w.falls
@@ -48,23 +48,23 @@ sees_as w os l Stop = ap (λ l. watch w.falls false w.marked (spell None l)) (ra
 sees_as w os l SteadyHigh = refl
 sees_as w os l SteadyLow = refl
 
-falses_are : (hs : List HostBehaviour) (es : Bank Entry hs) → listed (λ h x. false) hs es ≡ falses (tasks hs es)
+falses_are : (hs : List HostBehaviour) (es : Bank Entry hs) → bank_list (λ h x. false) hs es ≡ falses (tasks hs es)
 falses_are [] es = refl
 falses_are (h ∷ hs) es = ap (λ l. false ∷ l) (falses_are hs es.1)
 
 module _ (hs : List HostBehaviour) (ds : List Behaviour) where
-  opening_as : (w : Watch) (b : Book hs ds) (v : Bool) →
-      noted_as (cond (is_open (cond {A = Book hs ds} v (record { entries = each enters hs b.entries; devices = b.devices; turn = opened })
+  opening_as : (w : Monitor) (b : Book hs ds) (v : Bool) →
+      noted_as (cond (is_open (cond {A = Book hs ds} v (record { entries = bank_map entry_contending hs b.entries; devices = b.devices; turn = opened })
       (record { entries = b.entries; devices = b.devices; turn = closed })).turn)
-      (watching 0 false (listed (λ h x. false) hs b.entries) None []) w)
+      (monitor_with 0 false (bank_list (λ h x. false) hs b.entries) None []) w)
       ≡ cond v (watch 0 false (falses (tasks hs b.entries)) (spell None [])) (noted_as w)
   opening_as w b true = ap (λ l. watch 0 false l (spell None [])) (falses_are hs b.entries)
   opening_as w b false = refl
 
-  closed_as : (w : Watch) (b : Book hs ds) (e : Event) → Kept hs b.entries →
-      noted_as (cond (is_open (book_after hs ds (record { entries = b.entries; devices = b.devices; turn = closed }) e).turn) (watching 0 false (listed (λ h x. false) hs b.entries) None []) (sees w e))
+  closed_as : (w : Monitor) (b : Book hs ds) (e : Event) → Kept hs b.entries →
+      noted_as (cond (is_open (book_after hs ds (record { entries = b.entries; devices = b.devices; turn = closed }) e).turn) (monitor_with 0 false (bank_list (λ h x. false) hs b.entries) None []) (monitor_after_event w e))
       ≡ turned transfers (noted_as w) (tasks hs b.entries) None e
-  closed_as w b SteadyHigh k = opening_as w b (any_true (listed entry_armed hs b.entries))
+  closed_as w b SteadyHigh k = opening_as w b (any_true (bank_list entry_is_armed hs b.entries))
       ∙ ap (λ v. cond v (watch 0 false (falses (tasks hs b.entries)) (spell None [])) (noted_as w)) (sym (any_armed hs b.entries k))
   closed_as w b Fall k = falls_as w w.latch refl
   closed_as w b (Rise x) k = refl
@@ -72,30 +72,30 @@ module _ (hs : List HostBehaviour) (ds : List Behaviour) where
   closed_as w b Stop k = ap (λ l. watch w.falls false w.marked (spell None l)) (ranks_append w.spelled (stop ∷ []))
   closed_as w b SteadyLow k = refl
 
-  watched_parts : (w : Watch) (b : Book hs ds) (v : Turn) (e : Event) → Kept hs b.entries →
-      noted_as (watched hs ds w (record { entries = b.entries; devices = b.devices; turn = v }) e) ≡ turned transfers (noted_as w) (tasks hs b.entries) (turn_if v (contenders hs b.entries)) e
+  watched_parts : (w : Monitor) (b : Book hs ds) (v : Turn) (e : Event) → Kept hs b.entries →
+      noted_as (monitor_after hs ds w (record { entries = b.entries; devices = b.devices; turn = v }) e) ≡ turned transfers (noted_as w) (tasks hs b.entries) (turn_if v (contenders hs b.entries)) e
   watched_parts w b opened e k = sees_as w (tasks hs b.entries) (contenders hs b.entries) e
   watched_parts w b closed e k = closed_as w b e k
 
-  pub watched_as : (w : Watch) (b : Book hs ds) (e : Event) → Sound hs ds b → noted_as (watched hs ds w b e) ≡ turned transfers (noted_as w) (tasks hs b.entries) (turn_if b.turn (contenders hs b.entries)) e
+  pub watched_as : (w : Monitor) (b : Book hs ds) (e : Event) → Sound hs ds b → noted_as (monitor_after hs ds w b e) ≡ turned transfers (noted_as w) (tasks hs b.entries) (turn_if b.turn (contenders hs b.entries)) e
   watched_as w b e k = watched_parts w b b.turn e k.kept
 
 -- marks by verdicts
-pub marked_as : (hs : List HostBehaviour) (ms : Bank Served hs) (s : Signal) (vs : List Bool) →
-    marked_too vs (listed (λ h. served_mark h s) hs ms) ≡ marks_too transfers vs (verdicts transfers (masters_of hs ms) s)
+pub marked_as : (hs : List HostBehaviour) (ms : Bank HostedMaster hs) (s : Signal) (vs : List Bool) →
+    lost_after vs (bank_list (λ h. hosted_mark h s) hs ms) ≡ marks_too transfers vs (verdicts transfers (masters_of hs ms) s)
 marked_as [] ms s [] = refl
 marked_as [] ms s (v ∷ vs) = refl
 marked_as (h ∷ hs) ms s [] = refl
 marked_as (h ∷ hs) ms s (v ∷ vs) = grind (arith, marked_as hs ms.1 s vs)
 
-told_one : (k : VerdictModel transfers) → outcome_told k ≡ telling transfers k
+told_one : (k : VerdictModel transfers) → told_outcome k ≡ telling transfers k
 told_one k = grind arith
 
-pub told_as : (hs : List HostBehaviour) (ms : Bank Served hs) (s : Signal) → listed (λ h. served_told h s) hs ms ≡ tellings transfers (verdicts transfers (masters_of hs ms) s)
+pub told_as : (hs : List HostBehaviour) (ms : Bank HostedMaster hs) (s : Signal) → bank_list (λ h. hosted_told h s) hs ms ≡ tellings transfers (verdicts transfers (masters_of hs ms) s)
 told_as [] ms s = refl
 told_as (h ∷ hs) ms s = grind (arith, told_as hs)
 
-pub how_many_is : {A : Type 0} (l : List (Option A)) → how_many l ≡ count l
+pub how_many_is : {A : Type 0} (l : List (Option A)) → some_count l ≡ count l
 how_many_is [] = refl
 how_many_is (None ∷ l) = how_many_is l
 how_many_is (Some a ∷ l) = omega (arith, how_many_is l, sum_by-cons (λ o. cond (is_some o) 1 0) (Some a) l)

@@ -1,21 +1,21 @@
 -- Who is told at a stop: the outcome is its own, and its steps are those that the devices take.
 use Rattle.std.proofs.Common.{◌≡◌, ℕ, zero, suc, ◌+◌, Bool, true, false, cond, not, List, [], ◌∷◌, map, get_or, Some, None, Option, sym, refl, ap, ◌∙◌, arith}
 use Rattle.std.specs.Option.{option_map}
-use Rattle.transfer.specs.Drafts.{TransferModel}
-use Rattle.transfer.specs.Outcomes.{OutcomeModel}
-use Rattle.device.specs.Behaviours.{Behaviour}
-use Rattle.host.specs.Behaviours.{HostBehaviour}
+use Rattle.transfer.specs.Transfer.{TransferModel}
+use Rattle.transfer.specs.Outcome.{OutcomeModel}
+use Rattle.device.specs.Device.{Behaviour}
+use Rattle.host.specs.Host.{HostBehaviour}
 use Rattle.master.specs.declared.symbol.Symbol.{Symbol}
 use Rattle.master.specs.declared.symbol.Symbol.TheVariants.{Zero, One, Listen, RepeatedStart, Stop as ShowsStop}
-use Rattle.master.specs.Cursors.{opening_of}
-use Rattle.master.specs.Scripts.{Script, transfers}
-use Rattle.wire.specs.declared.wire.Event.{Event}
-use Rattle.wire.specs.declared.wire.Event.TheVariants.{Rise, Fall, Start, Stop, SteadyHigh, SteadyLow}
-use Rattle.law.specs.Banks.{Bank, listed}
-use Rattle.law.specs.Books.{Entry, told_if, told_all, told_at_stop, book_tells, Turn, closed, opened, Book, least, devices_after, contests, closes, book_after}
-use Rattle.law.specs.Carrying.{Placed, Carried, carried}
-use Rattle.law.specs.Legal.{Legal}
-use Rattle.law.specs.Strings.{rank, same_string}
+use Rattle.master.specs.Cursor.{new_cursor}
+use Rattle.master.specs.Script.{Script, transfers}
+use Rattle.wire.specs.declared.event.Event.{Event}
+use Rattle.wire.specs.declared.event.Event.TheVariants.{Rise, Fall, Start, Stop, SteadyHigh, SteadyLow}
+use Rattle.law.specs.Bank.{Bank, bank_list}
+use Rattle.law.specs.Book.{Entry, outcome_if_least, outcomes_of_turn, told_at_stop, book_told, Turn, closed, opened, Book, least_result, devices_after, contender_results, book_after_stop, book_after}
+use Rattle.law.specs.TransferResult.{AddressedDevice, TransferResult, transfer_result}
+use Rattle.law.specs.Legal.{IsLegal}
+use Rattle.law.specs.Letter.{rank, same_string}
 use Rattle.law.proofs.Sides.{Side, ends, letter, heard, after, string, last}
 use Rattle.law.proofs.Alone.CarriedAlone.{carried_alone}
 use Rattle.law.proofs.Alone.PortsSide.{ports_side}
@@ -82,66 +82,66 @@ module _ (W : Script) (D : Side) where
       ends_both (ends x) (ends y) (string W D n p (after D x s)) (string W D n q (after D y s)) (after D x s) (after D y s) (last W D n p (after D x s)) (last W D n q (after D y s)) d a t
       (λ k. ap (last W D n p) a ∙ same_last n p q (after D y s) (ap (string W D n p) (sym a) ∙ k))
 
-module _ (ds : List Behaviour) (d : Bank Placed ds) where
+module _ (ds : List Behaviour) (d : Bank AddressedDevice ds) where
   -- transfers with the same string leave the devices the same
-  same_devices : (t u : TransferModel) → Legal t → Legal u → same_string (carried ds t d).letters (carried ds u d).letters ≡ true → (carried ds t d).devices ≡ (carried ds u d).devices
+  same_devices : (t u : TransferModel) → IsLegal t → IsLegal u → same_string (transfer_result ds t d).letters (transfer_result ds u d).letters ≡ true → (transfer_result ds t d).devices ≡ (transfer_result ds u d).devices
   same_devices t u j k h =
-      let n = slots_left (opening_of t) + slots_left (opening_of u) in
+      let n = slots_left (new_cursor t) + slots_left (new_cursor u) in
       let a = carried_alone ds t d n j (omega arith) in
       let b = carried_alone ds u d n k (omega arith) in
-      let letters = same_of (map rank (carried ds t d).letters) (map rank (carried ds u d).letters) (same_ranks (carried ds t d).letters (carried ds u d).letters ∙ h) in
-      idle_same ds (carried ds t d).devices (carried ds u d).devices
-      (sym a.same_devices ∙ (same_last transfers (ports_side ds) n (opening_of t) (opening_of u) (opened_ports ds d) (a.same_letters ∙ (letters ∙ sym b.same_letters)) ∙ b.same_devices))
+      let letters = same_of (map rank (transfer_result ds t d).letters) (map rank (transfer_result ds u d).letters) (same_ranks (transfer_result ds t d).letters (transfer_result ds u d).letters ∙ h) in
+      idle_same ds (transfer_result ds t d).devices (transfer_result ds u d).devices
+      (sym a.same_devices ∙ (same_last transfers (ports_side ds) n (new_cursor t) (new_cursor u) (opened_ports ds d) (a.same_letters ∙ (letters ∙ sym b.same_letters)) ∙ b.same_devices))
 
-  nothing_at : (cs : List (Option (Carried ds))) (i : ℕ) → get_or (map {B = Option OutcomeModel} (λ c. None) cs) i None ≡ None
+  nothing_at : (cs : List (Option (TransferResult ds))) (i : ℕ) → get_or (map {B = Option OutcomeModel} (λ c. None) cs) i None ≡ None
   nothing_at [] i = refl
   nothing_at (c ∷ cs) zero = refl
   nothing_at (c ∷ cs) (suc i) = nothing_at cs i
 
-  told_one : (best c : Carried ds) (o : OutcomeModel) → told_if ds best (Some c) ≡ Some o → (o ≡ c.outcome) × (same_string c.letters best.letters ≡ true)
+  told_one : (best c : TransferResult ds) (o : OutcomeModel) → outcome_if_least ds best (Some c) ≡ Some o → (o ≡ c.outcome) × (same_string c.letters best.letters ≡ true)
   told_one best c o h = go (same_string c.letters best.letters) refl h where
     go : (v : Bool) → same_string c.letters best.letters ≡ v → cond v (Some c.outcome) None ≡ Some o → (o ≡ c.outcome) × (same_string c.letters best.letters ≡ true)
     go true e k = (let z : c.outcome ≡ o = cc in sym z, e)
     go false e k = cc
 
   -- whoever is told has the string of the best, and is told its own outcome
-  record Won (q : Option (Carried ds)) (c : Carried ds) (o : OutcomeModel) : Type 0 where
-    pub best : Carried ds
+  record Won (q : Option (TransferResult ds)) (c : TransferResult ds) (o : OutcomeModel) : Type 0 where
+    pub best : TransferResult ds
     pub leads : q ≡ Some best
     pub own : o ≡ c.outcome
     pub same : same_string c.letters best.letters ≡ true
 
-  won : (q : Option (Carried ds)) (cs : List (Option (Carried ds))) (i : ℕ) (c : Carried ds) (o : OutcomeModel) → get_or cs i None ≡ Some c → get_or (told_all ds q cs) i None ≡ Some o → Won q c o
+  won : (q : Option (TransferResult ds)) (cs : List (Option (TransferResult ds))) (i : ℕ) (c : TransferResult ds) (o : OutcomeModel) → get_or cs i None ≡ Some c → get_or (outcomes_of_turn ds q cs) i None ≡ Some o → Won q c o
   won None cs i c o e h = let z = sym (nothing_at cs i) ∙ h in cc
   won (Some best) [] i c o e h = cc
-  won (Some best) (x ∷ cs) zero c o e h = let z = told_one best c o (ap (told_if ds best) (sym e) ∙ h) in record { best = best; leads = refl; own = z.0; same = z.1 }
+  won (Some best) (x ∷ cs) zero c o e h = let z = told_one best c o (ap (outcome_if_least ds best) (sym e) ∙ h) in record { best = best; leads = refl; own = z.0; same = z.1 }
   won (Some best) (x ∷ cs) (suc i) c o e h = won (Some best) cs i c o e h
 
-  lead_of : (o : Option TransferModel) (best : Carried ds) → LegalIf o → option_map (carry ds d) o ≡ Some best → (u : TransferModel) × Legal u × (best ≡ carried ds u d)
+  lead_of : (o : Option TransferModel) (best : TransferResult ds) → LegalIf o → option_map (carry ds d) o ≡ Some best → (u : TransferModel) × IsLegal u × (best ≡ transfer_result ds u d)
   lead_of None best k e = cc
-  lead_of (Some u) best k e = (u, k, let z : carried ds u d ≡ best = cc in sym z)
+  lead_of (Some u) best k e = (u, k, let z : transfer_result ds u d ≡ best = cc in sym z)
 
 module _ (hs : List HostBehaviour) (ds : List Behaviour) where
-  nobody_at : (gs : List HostBehaviour) (ps : Bank Entry gs) (i : ℕ) → get_or (listed {X = Option OutcomeModel} (λ h x. None) gs ps) i None ≡ None
+  nobody_at : (gs : List HostBehaviour) (ps : Bank Entry gs) (i : ℕ) → get_or (bank_list {X = Option OutcomeModel} (λ h x. None) gs ps) i None ≡ None
   nobody_at [] ps i = refl
   nobody_at (g ∷ gs) ps zero = refl
   nobody_at (g ∷ gs) ps (suc i) = nobody_at gs ps.1 i
 
   module _ (b : Book hs ds) (i : ℕ) (t : TransferModel) (c : at (contenders hs b.entries) i ≡ Some t) where
-    abbrev own : Carried ds
-    own = carried ds t b.devices
+    abbrev own : TransferResult ds
+    own = transfer_result ds t b.devices
 
-    legal : Legal t
+    legal : IsLegal t
     legal = legal_at (contenders hs b.entries) i t (contenders_legal hs b.entries) c
 
-    contest : get_or (contests hs ds b) i None ≡ Some own
+    contest : get_or (contender_results hs ds b) i None ≡ Some own
     contest = ap (λ cs. get_or cs i None) (contests_of hs ds b) ∙ carried_at ds b.devices (contenders hs b.entries) i t c
 
-    stop_won : (o : OutcomeModel) (v : Turn) → get_or (told_at_stop hs ds b v) i None ≡ Some o → Won ds b.devices (least ds (contests hs ds b)) own o
-    stop_won o opened h = won ds b.devices (least ds (contests hs ds b)) (contests hs ds b) i own o contest h
+    stop_won : (o : OutcomeModel) (v : Turn) → get_or (told_at_stop hs ds b v) i None ≡ Some o → Won ds b.devices (least_result ds (contender_results hs ds b)) own o
+    stop_won o opened h = won ds b.devices (least_result ds (contender_results hs ds b)) (contender_results hs ds b) i own o contest h
     stop_won o closed h = let z = sym (nobody_at hs b.entries i) ∙ h in cc
 
-    tells_won : (o : OutcomeModel) (e : Event) → get_or (book_tells hs ds b e) i None ≡ Some o → Won ds b.devices (least ds (contests hs ds b)) own o
+    tells_won : (o : OutcomeModel) (e : Event) → get_or (book_told hs ds b e) i None ≡ Some o → Won ds b.devices (least_result ds (contender_results hs ds b)) own o
     tells_won o Stop h = stop_won o b.turn h
     tells_won o (Rise x) h = let z = sym (nobody_at hs b.entries i) ∙ h in cc
     tells_won o Fall h = let z = sym (nobody_at hs b.entries i) ∙ h in cc
@@ -149,7 +149,7 @@ module _ (hs : List HostBehaviour) (ds : List Behaviour) where
     tells_won o SteadyHigh h = let z = sym (nobody_at hs b.entries i) ∙ h in cc
     tells_won o SteadyLow h = let z = sym (nobody_at hs b.entries i) ∙ h in cc
 
-    pub tells_own : (o : OutcomeModel) (e : Event) → get_or (book_tells hs ds b e) i None ≡ Some o → o ≡ (carried ds t b.devices).outcome
+    pub tells_own : (o : OutcomeModel) (e : Event) → get_or (book_told hs ds b e) i None ≡ Some o → o ≡ (transfer_result ds t b.devices).outcome
     tells_own o e h = (tells_won o e h).own
 
     -- only a stop that closes a turn tells
@@ -157,7 +157,7 @@ module _ (hs : List HostBehaviour) (ds : List Behaviour) where
     stop_turn o opened h = refl
     stop_turn o closed h = let z = sym (nobody_at hs b.entries i) ∙ h in cc
 
-    pub tells_at_stop : (o : OutcomeModel) (e : Event) → get_or (book_tells hs ds b e) i None ≡ Some o → (e ≡ Stop) × (b.turn ≡ opened)
+    pub tells_at_stop : (o : OutcomeModel) (e : Event) → get_or (book_told hs ds b e) i None ≡ Some o → (e ≡ Stop) × (b.turn ≡ opened)
     tells_at_stop o Stop h = (refl, stop_turn o b.turn h)
     tells_at_stop o (Rise x) h = let z = sym (nobody_at hs b.entries i) ∙ h in cc
     tells_at_stop o Fall h = let z = sym (nobody_at hs b.entries i) ∙ h in cc
@@ -165,16 +165,16 @@ module _ (hs : List HostBehaviour) (ds : List Behaviour) where
     tells_at_stop o SteadyHigh h = let z = sym (nobody_at hs b.entries i) ∙ h in cc
     tells_at_stop o SteadyLow h = let z = sym (nobody_at hs b.entries i) ∙ h in cc
 
-    devices_then : (best : Carried ds) (e : Event) → e ≡ Stop → b.turn ≡ opened → least ds (contests hs ds b) ≡ Some best → (book_after hs ds b e).devices ≡ best.devices
-    devices_then best e p v l = ap (λ x. (book_after hs ds b x).devices) p ∙ (ap (λ w. (closes hs ds b w).devices) v ∙ ap (λ q. devices_after ds q b.devices) l)
+    devices_then : (best : TransferResult ds) (e : Event) → e ≡ Stop → b.turn ≡ opened → least_result ds (contender_results hs ds b) ≡ Some best → (book_after hs ds b e).devices ≡ best.devices
+    devices_then best e p v l = ap (λ x. (book_after hs ds b x).devices) p ∙ (ap (λ w. (book_after_stop hs ds b w).devices) v ∙ ap (λ q. devices_after ds q b.devices) l)
 
     -- the devices after a stop are those after the transfer of whoever is told
-    pub devices_won : (o : OutcomeModel) (e : Event) → get_or (book_tells hs ds b e) i None ≡ Some o → (book_after hs ds b e).devices ≡ (carried ds t b.devices).devices
+    pub devices_won : (o : OutcomeModel) (e : Event) → get_or (book_told hs ds b e) i None ≡ Some o → (book_after hs ds b e).devices ≡ (transfer_result ds t b.devices).devices
     devices_won o e h =
         let w = tells_won o e h in
         let z = tells_at_stop o e h in
         let l = contenders hs b.entries in
         let k = contenders_legal hs b.entries in
-        let u = lead_of ds b.devices (lead ds b.devices l) w.best (lead_legal ds b.devices l k) (sym (least_is ds b.devices l k) ∙ (ap (least ds) (sym (contests_of hs ds b)) ∙ w.leads)) in
+        let u = lead_of ds b.devices (lead ds b.devices l) w.best (lead_legal ds b.devices l k) (sym (least_is ds b.devices l k) ∙ (ap (least_result ds) (sym (contests_of hs ds b)) ∙ w.leads)) in
         devices_then w.best e z.0 z.1 w.leads ∙ (ap (λ c. c.devices) u.2
         ∙ sym (same_devices ds b.devices t u.0 legal u.1 (ap (λ c. same_string own.letters c.letters) (sym u.2) ∙ w.same)))

@@ -1,7 +1,7 @@
 // How many masters a tick told.
 ghost use Rattle.std.specs.Prelude.{◌≡◌, ◌≤◌};
 ghost use Rattle.law.specs.Limits.{most_masters};
-ghost use Rattle.law.specs.Runs.{tolds};
+ghost use Rattle.law.specs.Run.{told_count};
 
 use super::Tick;
 use master::Mark;
@@ -10,7 +10,7 @@ impl Tick {
     // How many outcomes it told.
     pub fn outcomes(&self) -> u32
         ensures few { result ≤ most_masters }
-        ensures all { result ≡ tolds self.now.marks }
+        ensures all { result ≡ told_count self.now.marks }
     {
         self.marks
             .iter()

@@ -1,8 +1,8 @@
 // The lines of a tick: its number and a mark on each.
 ghost use Rattle.std.specs.Prelude.{◌≡◌, ◌+◌, ◌*◌, ◌≤◌, ◌++◌, Some, length, decimal};
 ghost use Rattle.law.specs.Limits.{most_masters};
-ghost use Rattle.text.specs.Decimals.{IsDecimal};
-ghost use Rattle.listing.specs.Lines.{wire_line, loser_lines, stop_line, is_mark, numbers, numbers_text, lines_of};
+ghost use Rattle.text.specs.Decimal.{IsDecimal};
+ghost use Rattle.listing.specs.Marks.{wire_line, loser_lines, stop_line, is_mark, numbers, numbers_text, lines_of};
 
 use super::Marks;
 use law::MOST_MASTERS;

@@ -1,12 +1,12 @@
 // What a cursor shows, and how it moves on.
 ghost use Rattle.std.specs.Prelude.{◌≡◌};
-ghost use Rattle.transfer.specs.Drafts.{transfer_model};
-ghost use Rattle.transfer.specs.Legs.{leg_model};
-ghost use Rattle.transfer.specs.Outcomes.{outcome_model};
+ghost use Rattle.transfer.specs.Transfer.{transfer_model};
+ghost use Rattle.transfer.specs.Leg.{leg_model};
+ghost use Rattle.transfer.specs.Outcome.{outcome_model};
 ghost use Rattle.std.specs.Option.{option_map};
 ghost use Rattle.master.specs.declared.cursor.At.TheVariants.{InLeg};
-ghost use Rattle.master.specs.Rooms.{leg_number, leg_to_come};
-ghost use Rattle.master.specs.Cursors.{cursor_model, opening_of, own, sent, shown, unanswered, left, symbol_of, cursor_next, outcome_of};
+ghost use Rattle.master.specs.CursorBounds.{leg_number, leg_to_come};
+ghost use Rattle.master.specs.Cursor.{cursor_model, new_cursor, master_sends, byte_of_leg, symbol_in_leg, failure_kind, after_acknowledge, symbol_of, cursor_next, outcome_of};
 
 use super::{At, Cursor, Rest};
 use crate::symbol::Symbol;
@@ -37,7 +37,7 @@ impl Rest {
 
 impl Cursor {
     pub(crate) fn new(transfer: Transfer) -> Cursor
-        ensures { cursor_model result ≡ opening_of (transfer_model transfer) }
+        ensures { cursor_model result ≡ new_cursor (transfer_model transfer) }
     {
         let (leg, next) = transfer.legs();
         Cursor {
@@ -53,7 +53,7 @@ impl Cursor {
 
     // Whether the master sends this byte, and then listens for its acknowledge.
     fn is_own(&self) -> bool
-        ensures { result ≡ own (leg_model self.now.leg) self.now.byte }
+        ensures { result ≡ master_sends (leg_model self.now.leg) self.now.byte }
     {
         match self.leg.direction() {
             Direction::Write => true,
@@ -62,7 +62,7 @@ impl Cursor {
     }
 
     fn sent_byte(&self) -> u8
-        ensures { result ≡ sent (leg_model self.now.leg) self.now.byte }
+        ensures { result ≡ byte_of_leg (leg_model self.now.leg) self.now.byte }
     {
         let address = self.leg.address.number();
         match self.leg.body {
@@ -84,7 +84,7 @@ impl Cursor {
     }
 
     fn leg_symbol(&self) -> Symbol
-        ensures { result ≡ shown (leg_model self.now.leg) self.now.byte self.now.under_way.bits }
+        ensures { result ≡ symbol_in_leg (leg_model self.now.leg) self.now.byte self.now.under_way.bits }
     {
         let bits = self.under_way.bits;
         match (self.is_own(), bits < 8) {
@@ -131,7 +131,7 @@ impl Cursor {
 
     // What an N for this byte names.
     fn unanswered(&self) -> OutcomeKind
-        ensures { result ≡ unanswered (leg_number self.now.rest) self.now.byte }
+        ensures { result ≡ failure_kind (leg_number self.now.rest) self.now.byte }
     {
         let leg = self.rest.leg_number();
         if self.byte == 0 {
@@ -147,8 +147,8 @@ impl Cursor {
     // Goes to the next byte of the leg, or past its end; a byte that was read is kept.
     fn leave_byte(&mut self, is_own: bool)
         requires in_leg { self.old.at ≡ InLeg }
-        requires known { is_own ≡ own (leg_model self.old.leg) self.old.byte }
-        ensures { cursor_model self.new ≡ left (is_own) (leg_model self.old.leg) (option_map leg_model (leg_to_come self.old.rest)) self.old.byte (cursor_model self.old).notes }
+        requires known { is_own ≡ master_sends (leg_model self.old.leg) self.old.byte }
+        ensures { cursor_model self.new ≡ after_acknowledge (is_own) (leg_model self.old.leg) (option_map leg_model (leg_to_come self.old.rest)) self.old.byte (cursor_model self.old).notes }
     {
         if !is_own {
             self.read.push(self.under_way.value);

@@ -1,9 +1,9 @@
 // A master with the host that it serves.
 ghost use Rattle.std.specs.Prelude.{◌≡◌};
-ghost use Rattle.transfer.specs.Refusals.{answer};
-ghost use Rattle.master.specs.Serving.{SameHost, served_pulls, served_armed, served_new, served_arm, served_step, served_mark, served};
-ghost use Rattle.master.specs.Masters.{new_master};
-ghost use Rattle.master.specs.Scripts.{transfers};
+ghost use Rattle.transfer.specs.Refusal.{answer};
+ghost use Rattle.master.specs.Master.{SameHost, hosted_pulls, hosted_is_armed, hosted_new, hosted_arm, hosted_step, hosted_mark, hosted_master};
+ghost use Rattle.master.specs.MasterState.{new_master};
+ghost use Rattle.master.specs.Script.{transfers};
 
 use super::{Master, MasterState, Verdict};
 use crate::arming::Arming;
@@ -14,7 +14,7 @@ use wire::{Pulls, Signal};
 
 impl<H: Host> Master<H> {
     pub fn new(clock: ClockPair, host: H) -> Master<H>
-        ensures made { served H.Host result ≡ record { master = new_master transfers clock.low clock.high; meaning = H.Host.means host } }
+        ensures made { hosted_master H.Host result ≡ record { master = new_master transfers clock.low clock.high; meaning = H.Host.means host } }
         ensures same { result.host ≡ host }
     {
         Master {
@@ -46,27 +46,27 @@ impl<H: Host> Master<H> {
     }
 
     pub fn pulls(&self) -> Pulls
-        ensures { result ≡ served_pulls _ (served H.Host self.now) }
+        ensures { result ≡ hosted_pulls _ (hosted_master H.Host self.now) }
     {
         self.state.pulls
     }
 
     pub fn is_armed(&self) -> bool
-        ensures { result ≡ served_armed _ (served H.Host self.now) }
+        ensures { result ≡ hosted_is_armed _ (hosted_master H.Host self.now) }
     {
         self.state.arming.is_armed()
     }
 
     pub fn reset(&mut self)
         ensures same { SameHost self.old self.new }
-        ensures after { served H.Host self.new ≡ served_new _ (served H.Host self.old) }
+        ensures after { hosted_master H.Host self.new ≡ hosted_new _ (hosted_master H.Host self.old) }
     {
         self.state = MasterState::new(self.state.clock);
     }
 
     pub fn arm(&mut self) -> Result<(), Refusal>
         ensures same { SameHost self.old self.new }
-        ensures after { (answer (λ u. u) result, served H.Host self.new) ≡ served_arm _ (served H.Host self.old) }
+        ensures after { (answer (λ u. u) result, hosted_master H.Host self.new) ≡ hosted_arm _ (hosted_master H.Host self.old) }
     {
         if self.is_armed() {
             return Err(Refusal::ArmedAlready);
@@ -80,8 +80,8 @@ impl<H: Host> Master<H> {
     }
 
     pub fn step(&mut self, signal: Signal) -> Mark
-        ensures mark { result ≡ served_mark _ signal (served H.Host self.old) }
-        ensures after { served H.Host self.new ≡ served_step _ signal (served H.Host self.old) }
+        ensures mark { result ≡ hosted_mark _ signal (hosted_master H.Host self.old) }
+        ensures after { hosted_master H.Host self.new ≡ hosted_step _ signal (hosted_master H.Host self.old) }
     {
         match self.state.step(signal) {
             Verdict::Quiet => Mark::Quiet,

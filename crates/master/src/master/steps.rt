@@ -1,9 +1,9 @@
 // How a master is armed, and how it steps.
 ghost use Rattle.std.specs.Prelude.{◌≡◌, true};
-ghost use Rattle.master.specs.Masters.{master_model, new_master, master_step, verdict_model, contends, loses, to, quiet, told};
-ghost use Rattle.master.specs.Symbols.{pulls_sda};
-ghost use Rattle.transfer.specs.Outcomes.{outcome_model};
-ghost use Rattle.master.specs.Scripts.{transfers};
+ghost use Rattle.master.specs.MasterState.{master_model, new_master, master_step, verdict_model, contending_step, losing_step, with_stage, quiet, told};
+ghost use Rattle.master.specs.Symbol.{pulls_sda};
+ghost use Rattle.transfer.specs.Outcome.{outcome_model};
+ghost use Rattle.master.specs.Script.{transfers};
 
 use super::{MasterState, Stage, Verdict};
 use crate::arming::Arming;
@@ -30,7 +30,7 @@ impl MasterState {
     {
         // by event first: all masters meet the same one, so its branch is foreseen from the second on
         match (signal.event, &mut self.stage) {
-            (Event::SteadyHigh, Stage::Waiting) if signal.idle => self.contend(),
+            (Event::SteadyHigh, Stage::Waiting) if signal.free_and_high => self.contend(),
             (Event::SteadyLow, Stage::Opening(_) | Stage::Showing(..)) => {
                 self.count = self.count.saturating_sub(1);
                 self.pulls.scl = self.count > 0;
@@ -80,7 +80,7 @@ impl MasterState {
 
     // An armed master pulls SDA, for the start of its turn.
     fn contend(&mut self) -> Verdict
-        ensures { (master_model self.new, verdict_model result) ≡ contends transfers (master_model self.old) (master_model self.old).arming }
+        ensures { (master_model self.new, verdict_model result) ≡ contending_step transfers (master_model self.old) (master_model self.old).arming }
     {
         if let Arming::Armed(transfer) = self.arming {
             self.stage = Stage::Opening(Cursor::new(transfer));
@@ -95,7 +95,7 @@ impl MasterState {
 
     // At a rise or a start the high count begins.
     fn count_high(&mut self) -> Verdict
-        ensures after { master_model self.new ≡ to transfers (master_model self.old) (master_model self.old).stage self.old.clock.high self.old.pulls.scl self.old.pulls.sda }
+        ensures after { master_model self.new ≡ with_stage transfers (master_model self.old) (master_model self.old).stage self.old.clock.high self.old.pulls.scl self.old.pulls.sda }
         ensures verdict { verdict_model result ≡ quiet }
     {
         self.count = self.clock.high();
@@ -104,7 +104,7 @@ impl MasterState {
 
     // At a fall the clock is pulled, and SDA as the symbol shown asks.
     fn pull_for(&mut self, symbol: Symbol) -> Verdict
-        ensures after { master_model self.new ≡ to transfers (master_model self.old) (master_model self.old).stage self.old.clock.low true (pulls_sda symbol) }
+        ensures after { master_model self.new ≡ with_stage transfers (master_model self.old) (master_model self.old).stage self.old.clock.low true (pulls_sda symbol) }
         ensures verdict { verdict_model result ≡ quiet }
     {
         self.count = self.clock.low();
@@ -117,7 +117,7 @@ impl MasterState {
 
     // A loser lets go of both lines, stays armed and waits.
     fn lose(&mut self) -> Verdict
-        ensures { (master_model self.new, verdict_model result) ≡ loses transfers (master_model self.old) }
+        ensures { (master_model self.new, verdict_model result) ≡ losing_step transfers (master_model self.old) }
     {
         self.stage = Stage::Waiting;
         self.count = 0;

@@ -1,7 +1,6 @@
 // How a port steps, and what it asks its device.
 ghost use Rattle.std.specs.Prelude.{◌≡◌, true, false, not};
-ghost use Rattle.port.specs.Ports.{ForSomeHold, SameDevice, port_new, port_model, mode_pulls, port_pulls, counts, reads_on, settles, port_step, new_port};
-ghost use Rattle.port.specs.Asks.{asks_finish, asks_at_bit, asks_take, asks_hold_at_bit, AskedBy, PortAsked, HoldAsked, MayAnswer};
+ghost use Rattle.port.specs.Port.{ForSomeHold, SameDevice, reset_port, port_model, mode_pulls, port_pulls, port_after_bit, port_after_read_acknowledge, port_after_finish, port_step, new_port, finish_steps, steps_at_bit, take_steps, asks_hold_at_bit, AskedBy, PortAsked, HoldAsked, MayAnswer};
 ghost use Rattle.port.specs.declared.port.Mode.TheVariants.{Addressing, Writing, Reading};
 
 use super::{Mode, Port};
@@ -65,7 +64,7 @@ impl<D: Device> Port<D> {
 
     pub fn reset(&mut self)
         ensures same { SameDevice self.old self.new }
-        ensures after { port_model D.Device self.new ≡ port_new _ (port_model D.Device self.old) }
+        ensures after { port_model D.Device self.new ≡ reset_port _ (port_model D.Device self.old) }
     {
         self.mode = Mode::Out;
         self.owes_finish = false;
@@ -103,8 +102,8 @@ impl<D: Device> Port<D> {
 
     // A device that said yes to select is finished.
     fn settle(&mut self, mode: Mode)
-        ensures asked { AskedBy D.Device self.old.device (asks_finish _ (port_model D.Device self.old)) false 0 self.new.device }
-        ensures after { port_model D.Device self.new ≡ settles _ (port_model D.Device self.old) mode }
+        ensures asked { AskedBy D.Device self.old.device (finish_steps _ (port_model D.Device self.old)) false 0 self.new.device }
+        ensures after { port_model D.Device self.new ≡ port_after_finish _ (port_model D.Device self.old) mode }
     {
         if self.owes_finish {
             self.device.finish();
@@ -116,8 +115,8 @@ impl<D: Device> Port<D> {
     // At the eighth bit of the address byte a port that it calls selects its device.
     fn address_bit(&mut self, byte: Partial, bit: bool)
         requires { self.old.mode ≡ Addressing byte }
-        ensures asked { AskedBy D.Device self.old.device (asks_at_bit _ (port_model D.Device self.old) (Addressing byte) bit) false 0 self.new.device }
-        ensures after { port_model D.Device self.new ≡ counts _ (port_model D.Device self.old) (Addressing byte) bit 0 }
+        ensures asked { AskedBy D.Device self.old.device (steps_at_bit _ (port_model D.Device self.old) (Addressing byte) bit) false 0 self.new.device }
+        ensures after { port_model D.Device self.new ≡ port_after_bit _ (port_model D.Device self.old) (Addressing byte) bit 0 }
     {
         let value = shift_in(byte.value, bit);
         if byte.bits < 7 {
@@ -138,8 +137,8 @@ impl<D: Device> Port<D> {
     // At the eighth bit of a written byte it is put.
     fn write_bit(&mut self, byte: Partial, bit: bool)
         requires { self.old.mode ≡ Writing byte }
-        ensures asked { AskedBy D.Device self.old.device (asks_at_bit _ (port_model D.Device self.old) (Writing byte) bit) false 0 self.new.device }
-        ensures after { port_model D.Device self.new ≡ counts _ (port_model D.Device self.old) (Writing byte) bit 0 }
+        ensures asked { AskedBy D.Device self.old.device (steps_at_bit _ (port_model D.Device self.old) (Writing byte) bit) false 0 self.new.device }
+        ensures after { port_model D.Device self.new ≡ port_after_bit _ (port_model D.Device self.old) (Writing byte) bit 0 }
     {
         if byte.bits < 7 {
             self.mode = Mode::Writing(byte.received(bit));
@@ -152,7 +151,7 @@ impl<D: Device> Port<D> {
 
     fn read_bit(&mut self, byte: Partial, bit: bool)
         requires { self.old.mode ≡ Reading byte }
-        ensures { ForSomeHold (λ h. (asks_hold_at_bit (Reading byte) bit ≡ true → D.Device.behaviour.holds (D.Device.means self.new.device) h) × AskedBy D.Device self.old.device (asks_at_bit _ (port_model D.Device self.old) (Reading byte) bit) (asks_hold_at_bit (Reading byte) bit) h self.new.device × (port_model D.Device self.new ≡ counts _ (port_model D.Device self.old) (Reading byte) bit h)) }
+        ensures { ForSomeHold (λ h. (asks_hold_at_bit (Reading byte) bit ≡ true → D.Device.behaviour.holds (D.Device.means self.new.device) h) × AskedBy D.Device self.old.device (steps_at_bit _ (port_model D.Device self.old) (Reading byte) bit) (asks_hold_at_bit (Reading byte) bit) h self.new.device × (port_model D.Device self.new ≡ port_after_bit _ (port_model D.Device self.old) (Reading byte) bit h)) }
     {
         if byte.bits < 8 {
             self.mode = Mode::Reading(byte.shown());
@@ -163,7 +162,7 @@ impl<D: Device> Port<D> {
 
     // At the ninth bit of a read an N puts the port out, and at an A it takes a byte and then reads hold.
     fn read_on(&mut self, nack: bool)
-        ensures { ForSomeHold (λ h. (nack ≡ false → D.Device.behaviour.holds (D.Device.means self.new.device) h) × AskedBy D.Device self.old.device (asks_take _ (port_model D.Device self.old) nack) (not nack) h self.new.device × (port_model D.Device self.new ≡ reads_on _ (port_model D.Device self.old) nack (D.Device.behaviour.take (D.Device.means self.old.device)) h)) }
+        ensures { ForSomeHold (λ h. (nack ≡ false → D.Device.behaviour.holds (D.Device.means self.new.device) h) × AskedBy D.Device self.old.device (take_steps _ (port_model D.Device self.old) nack) (not nack) h self.new.device × (port_model D.Device self.new ≡ port_after_read_acknowledge _ (port_model D.Device self.old) nack (D.Device.behaviour.take (D.Device.means self.old.device)) h)) }
     {
         if nack {
             self.mode = Mode::Out;

@@ -1,9 +1,9 @@
 // The calls of a draft. A refused call changes nothing.
 ghost use Rattle.std.specs.Prelude.{◌≡◌};
-ghost use Rattle.transfer.specs.Drafts.{transfer_model, begun, last_set, write_set, read_set, second_begun};
-ghost use Rattle.transfer.specs.Legs.{body_model};
+ghost use Rattle.transfer.specs.Transfer.{transfer_model, new_draft, with_last_body, after_write, after_read, after_second_leg};
+ghost use Rattle.transfer.specs.Leg.{body_model};
 ghost use Rattle.transfer.specs.Limits.{least_address};
-ghost use Rattle.transfer.specs.Refusals.{answer};
+ghost use Rattle.transfer.specs.Refusal.{answer};
 
 use super::{Draft, Transfer};
 use crate::address::Address;
@@ -14,7 +14,7 @@ use crate::refusal::Refusal;
 impl Draft {
     // One leg, an empty write to the address.
     pub fn new(address: Address) -> Draft
-        ensures { result ≡ begun address.number }
+        ensures { result ≡ new_draft address.number }
     {
         Draft {
             transfer: Transfer {
@@ -26,7 +26,7 @@ impl Draft {
 
     // The last leg gets this body.
     fn set_body(&mut self, body: Body)
-        ensures { self.new ≡ last_set (body_model body) self.old.first self.old.second }
+        ensures { self.new ≡ with_last_body (body_model body) self.old.first self.old.second }
     {
         match &mut self.transfer.second {
             Some(leg) => leg.body = body,
@@ -36,7 +36,7 @@ impl Draft {
 
     // The last leg becomes a write of these bytes.
     pub fn write(&mut self, bytes: &[u8]) -> Result<(), Refusal>
-        ensures { (answer (λ u. u) result, self.new) ≡ write_set bytes.now self.old }
+        ensures { (answer (λ u. u) result, self.new) ≡ after_write bytes.now self.old }
     {
         if bytes.len() > MOST_BYTES {
             return Err(Refusal::LengthOutOfRange);
@@ -47,7 +47,7 @@ impl Draft {
 
     // The last leg becomes a read of `count` bytes.
     pub fn read(&mut self, count: u32) -> Result<(), Refusal>
-        ensures { (answer (λ u. u) result, self.new) ≡ read_set count self.old }
+        ensures { (answer (λ u. u) result, self.new) ≡ after_read count self.old }
     {
         if !(1..=MOST_BYTES as u32).contains(&count) {
             return Err(Refusal::LengthOutOfRange);
@@ -58,7 +58,7 @@ impl Draft {
 
     // A second leg, an empty write to the address; it is then the last.
     pub fn second_leg(&mut self, address: Address) -> Result<(), Refusal>
-        ensures { (answer (λ u. u) result, self.new) ≡ second_begun address.number self.old }
+        ensures { (answer (λ u. u) result, self.new) ≡ after_second_leg address.number self.old }
     {
         if self.transfer.second.is_some() {
             return Err(Refusal::TwoLegsAlready);
@@ -84,7 +84,7 @@ impl Transfer {
 
     // What stands where no transfer is meant: an empty write to the least address.
     pub fn filler() -> Transfer
-        ensures { transfer_model result ≡ begun least_address }
+        ensures { transfer_model result ≡ new_draft least_address }
     {
         Draft::new(Address::least()).seal()
     }

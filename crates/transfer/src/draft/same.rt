@@ -4,7 +4,7 @@ ghost use Rattle.std.specs.Cmp.{and_equiv, on_equiv, partial_equiv_from_equiv};
 ghost use Rattle.std.specs.Cmp.Lexicographic.{options_equiv};
 ghost use Rattle.std.specs.Prelude.{◌≡◌, ◌&&◌};
 ghost use Rattle.transfer.specs.contracts.leg.LegEq.TheImpl.Laws.{laws-law};
-ghost use Rattle.transfer.specs.Drafts.{transfer_model};
+ghost use Rattle.transfer.specs.Transfer.{transfer_model};
 
 use super::Transfer;
 use crate::leg::Leg;

@@ -1,8 +1,7 @@
 // Whole transfers, each in one call.
 ghost use Rattle.std.specs.Prelude.{◌≡◌};
-ghost use Rattle.transfer.specs.Drafts.{transfer_model};
-ghost use Rattle.transfer.specs.Refusals.{answer};
-ghost use Rattle.transfer.specs.Wholes.{one_write, one_read, write_and_read};
+ghost use Rattle.transfer.specs.Transfer.{transfer_model, one_write, one_read, write_and_read};
+ghost use Rattle.transfer.specs.Refusal.{answer};
 
 use super::{Draft, Transfer};
 use crate::address::Address;

@@ -1,6 +1,6 @@
 // How a leg is made and what is asked of it.
 ghost use Rattle.std.specs.Prelude.{◌≡◌};
-ghost use Rattle.transfer.specs.Legs.{body_model, leg_model, empty_write, body_size, body_direction, direction_of};
+ghost use Rattle.transfer.specs.Leg.{body_model, leg_model, empty_write, body_size, body_direction, direction_of};
 
 use super::{Body, Direction, Leg};
 use crate::address::Address;

@@ -5,7 +5,7 @@ ghost use Rattle.std.specs.Cmp.Lexicographic.{nat_list_eq_equiv};
 ghost use Rattle.std.specs.Prelude.{◌≡◌, ◌&&◌};
 ghost use Rattle.transfer.specs.Bytes.{bytes_in};
 ghost use Rattle.transfer.specs.contracts.outcome.OutcomeKindEq.TheImpl.Laws.{laws-law};
-ghost use Rattle.transfer.specs.Outcomes.{outcome_model};
+ghost use Rattle.transfer.specs.Outcome.{outcome_model};
 
 use super::{Outcome, OutcomeKind};
 use crate::bytes::ReadBytes;

@@ -1,6 +1,6 @@
 // A byte and its acknowledge as text.
 ghost use Rattle.std.specs.Prelude.{◌≡◌, ◌+◌, ◌≤◌, [], ◌∷◌, ◌++◌, Some, length};
-ghost use Rattle.wire.specs.ByteTexts.{letter_of, byte_text};
+ghost use Rattle.wire.specs.Decoder.{letter_of, byte_text};
 
 use super::{Acknowledge, DecodedByte};
 use std::fmt;

@@ -1,6 +1,6 @@
 use Rattle.std.proofs.Common.{◌≡◌, ℕ, suc, ◌-◌, true, sym, ap, ◌∙◌, arith}
-use Rattle.exchange.specs.Parts.{bus_model}
-use Rattle.examples.specs.Runs.{is_stop}
+use Rattle.exchange.specs.Bus.{bus_model}
+use Rattle.examples.specs.Run.{is_stop}
 use Rattle.examples.proofs.Stops.{stops_here, stops_later, not_stop, none_within, first_is}
 use Rattle.examples.proofs.run.first_stop.Goals as goal
 

@@ -1,6 +1,6 @@
 use Rattle.std.proofs.Common.{◌≡◌, ℕ, ◌+◌}
-use Rattle.exchange.specs.Parts.{bus_model}
-use Rattle.examples.specs.Runs.{stop_within}
+use Rattle.exchange.specs.Bus.{bus_model}
+use Rattle.examples.specs.Run.{stop_within}
 use Rattle.examples.proofs.run.first_stop.Given as goal
 
 abbrev pub invariant-loop-made : goal.invariant-loop-made

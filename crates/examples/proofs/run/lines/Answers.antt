@@ -2,11 +2,10 @@ use Rattle.std.proofs.Common.{◌≡◌, ℕ, List, [], ◌∷◌, Ok, Result, c
 use Rattle.std.specs.List.{flat_map}
 use Rattle.transfer.specs.declared.draft.Transfer.{Transfer}
 use Rattle.transfer.specs.declared.refusal.Refusal.{Refusal}
-use Rattle.transfer.specs.Drafts.{transfer_model}
-use Rattle.transfer.specs.Wholes.{one_write, one_read}
-use Rattle.parts.proofs.Made.{ok_same, unwrapped, at}
-use Rattle.parts.specs.declared.pair.Clocks.{Clocks}
-use Rattle.examples.specs.Runs.{example_line}
+use Rattle.transfer.specs.Transfer.{transfer_model, one_write, one_read}
+use Rattle.support.proofs.Made.{ok_same, unwrapped, at}
+use Rattle.support.specs.declared.pair.Clocks.{Clocks}
+use Rattle.examples.specs.Run.{example_line}
 use Rattle.examples.proofs.run.lines.Goals as goal
 
 lines_at : List Clocks → List ℕ → Transfer → Transfer → List ℕ

@@ -1,7 +1,7 @@
 use Rattle.std.proofs.Common.{◌∙◌, ℕ, List, [], subst}
 use Rattle.std.proofs.Output.{writes_in_calls_nil}
-use Rattle.printing.proofs.Writing.{puts_more}
-use Rattle.printing.specs.Outputs.{Puts}
+use Rattle.support.proofs.Writing.{puts_more}
+use Rattle.support.specs.Output.{Puts}
 use Rattle.examples.proofs.run.run.Goals as goal
 
 pub returns : goal.returns

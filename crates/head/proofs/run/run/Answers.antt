@@ -1,12 +1,12 @@
 use Rattle.std.proofs.Common.{◌∙◌, ◌++◌, sym, ap, subst}
-use Rattle.exchange.specs.Parts.{bus_model}
-use Rattle.printing.proofs.OneText.{only_run}
-use Rattle.printing.proofs.Writing.{puts_more, puts_less}
-use Rattle.printing.specs.Outputs.{Puts}
-use Rattle.printing.specs.Runs.{RunsTo}
+use Rattle.exchange.specs.Bus.{bus_model}
+use Rattle.support.proofs.OneText.{only_run}
+use Rattle.support.proofs.Writing.{puts_more, puts_less}
+use Rattle.support.specs.Output.{Puts}
+use Rattle.support.specs.PrintedRun.{RunsTo}
 use Rattle.head.proofs.OneRun.{one_hold, one_run}
-use Rattle.head.specs.Runs.{end_text}
-use Rattle.head.specs.Setups.{head_hosts, head_devices}
+use Rattle.head.specs.Run.{end_text}
+use Rattle.head.specs.Setup.{head_hosts, head_devices}
 use Rattle.head.proofs.run.run.Goals as goal
 
 pub returns-in-Err : goal.returns-in-Err

@@ -1,9 +1,8 @@
 use Rattle.std.proofs.Common.{refl}
-use Rattle.transfer.specs.Drafts.{transfer_model}
-use Rattle.transfer.specs.Wholes.{one_read}
-use Rattle.host.specs.PollHosts.{poll_host}
+use Rattle.transfer.specs.Transfer.{transfer_model, one_read}
+use Rattle.host.specs.PollHost.{poll_host}
 use Rattle.head.proofs.Heads.{serves}
-use Rattle.parts.proofs.Made.{ok_same, unwrapped, at}
+use Rattle.support.proofs.Made.{ok_same, unwrapped, at}
 use Rattle.head.proofs.setup.alarm_unit.Goals as goal
 
 pub returns : goal.returns

@@ -1,9 +1,8 @@
 use Rattle.std.proofs.Common.{[], ◌∷◌, refl}
-use Rattle.transfer.specs.Drafts.{transfer_model}
-use Rattle.transfer.specs.Wholes.{one_write, write_and_read}
-use Rattle.host.specs.ListHosts.{list_host, listed}
+use Rattle.transfer.specs.Transfer.{transfer_model, one_write, write_and_read}
+use Rattle.host.specs.ListHost.{list_host, list_host_model}
 use Rattle.head.proofs.Heads.{serves}
-use Rattle.parts.proofs.Made.{ok_same, unwrapped, at}
+use Rattle.support.proofs.Made.{ok_same, unwrapped, at}
 use Rattle.head.proofs.setup.logger.Goals as goal
 
 pub returns : goal.returns
@@ -14,5 +13,5 @@ returns c =
       _,
       (c.unwrap-write.result, c.unwrap-read.result, write, read, refl),
       serves list_host _ _ _ _ _ c.new-3.ensures.made (ok_same (unwrapped (λ k. (k.low, k.high)) _ _ _ c.new.ensures c.unwrap-clock.ensures))
-          (ok_same (unwrapped listed _ _ _ c.list_of.ensures c.unwrap.ensures)),
+          (ok_same (unwrapped list_host_model _ _ _ c.list_of.ensures c.unwrap.ensures)),
     )

@@ -1,9 +1,8 @@
 use Rattle.std.proofs.Common.{[], ◌∷◌, refl}
-use Rattle.transfer.specs.Drafts.{transfer_model}
-use Rattle.transfer.specs.Wholes.{one_write}
-use Rattle.host.specs.ListHosts.{list_host, listed}
+use Rattle.transfer.specs.Transfer.{transfer_model, one_write}
+use Rattle.host.specs.ListHost.{list_host, list_host_model}
 use Rattle.head.proofs.Heads.{serves}
-use Rattle.parts.proofs.Made.{ok_same, unwrapped, at}
+use Rattle.support.proofs.Made.{ok_same, unwrapped, at}
 use Rattle.head.proofs.setup.service_port.Goals as goal
 
 pub returns : goal.returns
@@ -15,5 +14,5 @@ returns c =
       _,
       (c.unwrap-write.result, c.unwrap-probe.result, write, probe, refl),
       serves list_host _ _ _ _ _ c.new-4.ensures.made (ok_same (unwrapped (λ k. (k.low, k.high)) _ _ _ c.new.ensures c.unwrap-clock.ensures))
-          (ok_same (unwrapped listed _ _ _ c.list_of.ensures c.unwrap-3.ensures)),
+          (ok_same (unwrapped list_host_model _ _ _ c.list_of.ensures c.unwrap-3.ensures)),
     )

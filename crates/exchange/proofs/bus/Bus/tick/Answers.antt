@@ -1,9 +1,9 @@
 use Rattle.std.proofs.Common.{◌≡◌, ap, ◌∙◌, subst}
 use Rattle.law.proofs.Unheld.{tick_unheld}
-use Rattle.law.specs.Buses.{AllMayAnswer, levels_at}
-use Rattle.exchange.specs.Parts.{bus_model}
+use Rattle.law.specs.Bus.{AllMayAnswer, levels_at}
+use Rattle.exchange.specs.Bus.{bus_model}
 use Rattle.exchange.proofs.Ticks.{levels_are, tick_is}
-use Rattle.wire.specs.Wires.{signal}
+use Rattle.wire.specs.Wire.{signal}
 use Rattle.exchange.proofs.bus.Bus.tick.Goals as goal
 
 pub returns : goal.returns

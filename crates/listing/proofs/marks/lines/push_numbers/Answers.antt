@@ -3,7 +3,7 @@ use Rattle.std.proofs.lemmas.List.{take_all}
 use Rattle.master.specs.declared.mark.Mark.{Mark}
 use Rattle.master.specs.declared.mark.Mark.TheVariants.{Quiet}
 use Rattle.text.specs.Digits.{digit_code}
-use Rattle.listing.specs.Lines.{is_mark}
+use Rattle.listing.specs.Marks.{is_mark}
 use Rattle.listing.proofs.Masters.{marked, next, so_far}
 use Rattle.listing.proofs.marks.lines.push_numbers.Goals as goal
 use Rattle.listing.proofs.marks.lines.push_numbers.Goals.{then-eq, else-eq}

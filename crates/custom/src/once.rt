@@ -1,0 +1,53 @@
+// A host that wants one transfer, once.
+ghost use Rattle.std.specs.Prelude.{◌≡◌, None};
+ghost use Rattle.std.specs.Option.{option_map};
+ghost use Rattle.transfer.specs.Outcome.{outcome_model};
+ghost use Rattle.custom.specs.Once.{once_model, once};
+
+use host::Host;
+use transfer::{Outcome, Transfer};
+
+#[derive(Drop)]
+pub struct Once {
+    transfer: Transfer,
+    last: Option<Outcome>,
+}
+
+impl Once {
+    pub fn new(transfer: Transfer) -> Once
+        ensures { once_model result ≡ record { transfer = transfer; last = None } }
+    {
+        Once {
+            transfer,
+            last: None,
+        }
+    }
+
+    /// The transfer that it wants once, also when it was told its outcome.
+    pub fn transfer(&self) -> Transfer
+        ensures { result ≡ (once_model self.now).transfer }
+    {
+        self.transfer
+    }
+
+    // Each make has its own: a trait for it would be longer than this.
+    pub fn last(&self) -> Option<Outcome>
+        ensures { option_map outcome_model result ≡ (once_model self.now).last }
+    {
+        self.last
+    }
+}
+
+impl Host for Once {
+    ghost behaviour = { once };
+
+    ghost means = { once_model };
+
+    fn want(&self) -> (bool, Transfer) {
+        (self.last.is_none(), self.transfer)
+    }
+
+    fn told(&mut self, outcome: &Outcome) {
+        self.last = Some(*outcome);
+    }
+}

@@ -1,0 +1,18 @@
+-- Whether a master is armed, and with what. Assumes nothing.
+use Rattle.std.specs.Prelude.{ℕ, Bool, true, false, Some, None, Ok, Err, Option, Result}
+use Rattle.master.specs.declared.arming.Arming.{Arming}
+use Rattle.master.specs.declared.arming.Arming.TheVariants.{Unarmed, Armed}
+
+abbrev pub is_armed : {T : Type 0} → Arming T → Bool
+is_armed Unarmed = false
+is_armed (Armed t) = true
+
+abbrev pub arming_map : {T U : Type 0} → (T → U) → Arming T → Arming U
+arming_map f Unarmed = Unarmed
+arming_map f (Armed t) = Armed (f t)
+
+-- an armed master is refused with 6, and one whose host wants nothing with 7
+abbrev pub arming_after_arm : {T : Type 0} → Arming T → Option T → Result (Unit {0}) ℕ × Arming T
+arming_after_arm (Armed t) want = (Err 6, Armed t)
+arming_after_arm Unarmed None = (Err 7, Unarmed)
+arming_after_arm Unarmed (Some t) = (Ok tt, Armed t)

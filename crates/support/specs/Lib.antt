@@ -1,0 +1,5 @@
+pub mod Filled
+pub mod PairBus
+pub mod ArmAll
+pub mod Output
+pub mod PrintedRun

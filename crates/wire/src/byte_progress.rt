@@ -1,0 +1,54 @@
+// A byte as bits, the highest first.
+ghost use Rattle.std.specs.Prelude.{◌≡◌, suc, ◌<◌};
+ghost use Rattle.wire.specs.ByteProgress.{bit_at, shift_in, progress};
+
+// A byte under way: how many of its bits have passed, and their value.
+#[derive(Clone, Copy, PartialEq, Eq, Debug)]
+pub struct Partial {
+    pub bits: u8,
+    pub value: u8,
+}
+
+impl Partial {
+    // A byte of this value of which no bit has passed.
+    pub fn of(value: u8) -> Partial
+        ensures { result ≡ progress 0 value }
+    {
+        Partial { bits: 0, value }
+    }
+
+    // One bit more of a byte that comes.
+    pub fn received(self, bit: bool) -> Partial
+        requires { self.bits < 255 }
+        ensures { result ≡ progress (suc self.bits) (shift_in self.value bit) }
+    {
+        Partial {
+            bits: self.bits + 1,
+            value: shift_in(self.value, bit),
+        }
+    }
+
+    // One bit more of a byte that goes.
+    pub fn shown(self) -> Partial
+        requires { self.bits < 255 }
+        ensures { result ≡ progress (suc self.bits) self.value }
+    {
+        Partial {
+            bits: self.bits + 1,
+            value: self.value,
+        }
+    }
+}
+
+pub fn digit_at(byte: u8, place: u8) -> bool
+    requires { place < 8 }
+    ensures { result ≡ bit_at byte place }
+{
+    (byte >> place) % 2 == 1
+}
+
+pub fn shift_in(byte: u8, bit: bool) -> u8
+    ensures { result ≡ shift_in byte bit }
+{
+    byte % 128 * 2 + u8::from(bit)
+}
