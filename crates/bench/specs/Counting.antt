@@ -1,4 +1,4 @@
--- Ticks in which masters are armed again whenever the bus is at rest, and the outcomes told in them. Assumes nothing.
+-- Ticks in which masters are armed again whenever the bus is at rest, and the outcomes told in them.
 use Rattle.std.specs.Prelude.{◌≡◌, ℕ, zero, suc, ◌+◌, ◌-◌, ◌^◌, false, min, cond, List, [], ◌∷◌, None}
 use Rattle.transfer.specs.declared.draft.Transfer.{Transfer}
 use Rattle.transfer.specs.Transfer.{TransferModel, transfer_model}

@@ -1,4 +1,4 @@
--- The buses that are measured: their sizes, and their parts before a master is armed. Assumes nothing.
+-- The buses that are measured: their sizes, and their parts before a master is armed.
 use Rattle.std.specs.Prelude.{◌≡◌, ℕ, zero, suc, Bool, true, false, ◌||◌, List, replicate, None, Some, Option, ◌==◌}
 use Rattle.device.specs.Device.{Behaviour}
 use Rattle.device.specs.RegisterFile.{register_file, new_registers}

@@ -35,7 +35,7 @@ fn counted(count: u64, tick: &Tick) -> u64
     ensures { result ≡ count_after tick.now.event count (told_count tick.now.marks) }
 {
     if tick.event == Event::Stop {
-        count.saturating_add(u64::from(tick.outcomes()))
+        count.saturating_add(u64::from(tick.outcome_count()))
     } else {
         count
     }

@@ -27,7 +27,7 @@ fn count<M: Masters + Drop, P: Ports + Drop>(work: Work, mut bus: Bus<M, P>) -> 
 fn with_ports<M: Masters + Drop>(work: Work, masters: M) -> Option<u64>
     requires some_master { 1 ≤ length M.Masters.hosts }
     requires few_masters { length M.Masters.hosts ≤ most_masters }
-    ensures { MeasuredWith M.Masters.hosts (M.Masters.stand masters) work.masters work.ports work.ticks result }
+    ensures { MeasuredWith M.Masters.hosts (M.Masters.model masters) work.masters work.ports work.ticks result }
 {
     let count = match work.ports {
         1 => count(work, Bus::new(masters, (file(FIRST).unwrap(), End))),

@@ -1,5 +1,5 @@
 -- The counter: it is read and not written, each byte read is how many were read before, modulo 256, and it holds the clock
--- for 0 to 3 ticks, one more after each byte. Assumes nothing.
+-- for 0 to 3 ticks, one more after each byte.
 use Rattle.std.specs.Prelude.{◌≡◌, ℕ, ◌+◌, ◌%◌, Bool, true, false}
 use Rattle.device.specs.Device.{Behaviour}
 use Rattle.transfer.specs.declared.leg.Direction.{Direction}

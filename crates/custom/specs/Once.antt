@@ -1,4 +1,4 @@
--- The once host: one transfer, wanted until any outcome of it is told. Assumes nothing.
+-- The once host: one transfer, wanted until any outcome of it is told.
 use Rattle.std.specs.Option.{option_map}
 use Rattle.std.specs.Prelude.{Some, None, Option}
 use Rattle.transfer.specs.declared.draft.Transfer.{Transfer}

@@ -28,7 +28,7 @@ impl Counter {
 impl Device for Counter {
     ghost behaviour = { counter };
 
-    ghost means = { counter_model };
+    ghost meaning = { counter_model };
 
     fn select(&mut self, direction: Direction) -> bool {
         direction == Direction::Read

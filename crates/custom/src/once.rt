@@ -41,7 +41,7 @@ impl Once {
 impl Host for Once {
     ghost behaviour = { once };
 
-    ghost means = { once_model };
+    ghost meaning = { once_model };
 
     fn want(&self) -> (bool, Transfer) {
         (self.last.is_none(), self.transfer)

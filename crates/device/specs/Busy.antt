@@ -1,4 +1,4 @@
--- The busy layer: after a selection in which a put got yes, the next selects answer no without asking below. Assumes nothing.
+-- The busy layer: after a selection in which a put got yes, the next selects answer no without asking below.
 use Rattle.std.specs.Prelude.{◌≡◌, ℕ, ◌<◌, ◌-◌, Bool, false, cond, nat_lt}
 use Rattle.device.specs.declared.busy.Busy.{Busy}
 use Rattle.device.specs.declared.selection.Selection.{Selection}

@@ -1,4 +1,4 @@
--- What a device means: a meaning, four steps of which answer and next meaning depend on the meaning and the input alone, and what hold may answer. Assumes nothing.
+-- What a device means: a meaning, four steps of which answer and next meaning depend on the meaning and the input alone, and what hold may answer.
 use Rattle.std.specs.Prelude.{ℕ, Bool}
 use Rattle.transfer.specs.declared.leg.Direction.{Direction}
 
@@ -11,7 +11,7 @@ pub record Behaviour : Type 1 where
   -- what hold may answer
   pub holds : Meaning → ℕ → Type 0
 
--- MERGED: -- What a device was asked, and what it answered. Assumes nothing.
+-- MERGED: -- What a device was asked, and what it answered.
 -- one of the four steps of a device, with its answer
 pub data Step : Type 0 where
   select : Direction → Bool → Step

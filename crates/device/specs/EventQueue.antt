@@ -1,4 +1,4 @@
--- The event queue: bytes that are read once, the oldest first. Assumes nothing.
+-- The event queue: bytes that are read once, the oldest first.
 use Rattle.std.specs.Prelude.{◌≡◌, ℕ, Bool, false, List, is_some}
 use Rattle.std.specs.Option.{unwrap_or}
 use Rattle.transfer.specs.Fifo.{first_of, rest_of}

@@ -1,4 +1,4 @@
--- The register file: 16 bytes and a pointer, which the first byte of a write sets. Assumes nothing.
+-- The register file: 16 bytes and a pointer, which the first byte of a write sets.
 use Rattle.std.specs.Prelude.{◌≡◌, ℕ, ◌+◌, ◌%◌, Bool, true, false, cond, List, replicate, nat_lt, slice_index, slice_set}
 use Rattle.transfer.specs.declared.leg.Direction.{Direction}
 use Rattle.transfer.specs.declared.leg.Direction.TheVariants.{Write, Read}

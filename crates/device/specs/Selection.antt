@@ -1,4 +1,4 @@
--- Where a device is in a selection, which lasts from a select that got yes to the next finish. Assumes nothing.
+-- Where a device is in a selection, which lasts from a select that got yes to the next finish.
 use Rattle.std.specs.Prelude.{Bool, true, false}
 use Rattle.device.specs.declared.selection.Selection.{Selection}
 use Rattle.device.specs.declared.selection.Selection.TheVariants.{Closed, Open, Written}

@@ -1,4 +1,4 @@
--- The slow layer: hold answers the larger of its own number and the one below. Assumes nothing.
+-- The slow layer: hold answers the larger of its own number and the one below.
 use Rattle.std.specs.Prelude.{◌≡◌, ℕ, max}
 use Rattle.device.specs.declared.slow.Slow.{Slow}
 use Rattle.device.specs.Device.{Behaviour, Step}

@@ -18,7 +18,7 @@ pub struct Busy<D> {
 
 impl<D: Device> Busy<D> {
     pub fn new(number: u8, device: D) -> Busy<D>
-        ensures made { busy_model D.Device.behaviour D.Device.means result ≡ new_busy D.Device.behaviour number (D.Device.means device) }
+        ensures made { busy_model D.Device.behaviour D.Device.meaning result ≡ new_busy D.Device.behaviour number (D.Device.meaning device) }
         ensures same { result.device ≡ device }
     {
         Busy {
@@ -31,14 +31,14 @@ impl<D: Device> Busy<D> {
 
     /// How many selects it refuses after a selection that wrote.
     pub fn number(&self) -> u8
-        ensures { result ≡ (busy_model D.Device.behaviour D.Device.means self.now).number }
+        ensures { result ≡ (busy_model D.Device.behaviour D.Device.meaning self.now).number }
     {
         self.number
     }
 
     /// How many selects it still refuses, from 0 to its number.
     pub fn left(&self) -> u8
-        ensures { result ≡ (busy_model D.Device.behaviour D.Device.means self.now).left }
+        ensures { result ≡ (busy_model D.Device.behaviour D.Device.meaning self.now).left }
     {
         self.left
     }
@@ -67,11 +67,11 @@ impl<D: Device> Busy<D> {
 impl<D: Device> Device for Busy<D> {
     ghost behaviour = { busy_over D.Device.behaviour };
 
-    ghost means = { busy_model D.Device.behaviour D.Device.means };
+    ghost meaning = { busy_model D.Device.behaviour D.Device.meaning };
 
-    ghost went = { BusyStepsTo D.Device.went };
+    ghost steps_to = { BusyStepsTo D.Device.steps_to };
 
-    ghost held = { λ x h z. D.Device.held x.device h z.device };
+    ghost holds_to = { λ x h z. D.Device.holds_to x.device h z.device };
 
     fn select(&mut self, direction: Direction) -> bool {
         if self.left > 0 {

@@ -41,7 +41,7 @@ impl EventQueue {
 impl Device for EventQueue {
     ghost behaviour = { event_queue };
 
-    ghost means = { queue_model };
+    ghost meaning = { queue_model };
 
     fn select(&mut self, direction: Direction) -> bool {
         direction == Direction::Read && self.bytes.first().is_some()

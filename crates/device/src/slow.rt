@@ -20,7 +20,7 @@ impl<D: Device> Slow<D> {
 
     /// For how many ticks it holds the clock at least.
     pub fn number(&self) -> u8
-        ensures { result ≡ (slow_model D.Device.behaviour D.Device.means self.now).number }
+        ensures { result ≡ (slow_model D.Device.behaviour D.Device.meaning self.now).number }
     {
         self.number
     }
@@ -44,11 +44,11 @@ impl<D: Device> Slow<D> {
 impl<D: Device> Device for Slow<D> {
     ghost behaviour = { slow_over D.Device.behaviour };
 
-    ghost means = { slow_model D.Device.behaviour D.Device.means };
+    ghost meaning = { slow_model D.Device.behaviour D.Device.meaning };
 
-    ghost went = { SlowStepsTo D.Device.went };
+    ghost steps_to = { SlowStepsTo D.Device.steps_to };
 
-    ghost held = { SlowHoldsTo D.Device.held };
+    ghost holds_to = { SlowHoldsTo D.Device.holds_to };
 
     fn select(&mut self, direction: Direction) -> bool {
         self.device.select(direction)

@@ -1,4 +1,4 @@
--- What the program prints. Assumes nothing.
+-- What the program prints.
 use Rattle.std.specs.Prelude.{◌≡◌, ℕ, zero, suc, Bool, true, false, cond, List, [], ◌∷◌, ◌++◌, codes, decimal, map, Option, Some, None}
 use Rattle.std.specs.List.{flat_map}
 use Rattle.transfer.specs.declared.draft.Transfer.{Transfer}

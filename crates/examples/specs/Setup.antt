@@ -1,4 +1,4 @@
--- The clocks of the examples, and the bus of two queues before it is armed. Assumes nothing.
+-- The clocks of the examples, and the bus of two queues before it is armed.
 use Rattle.std.specs.Prelude.{◌≡◌, ℕ, List, [], ◌∷◌, None}
 use Rattle.transfer.specs.declared.draft.Transfer.{Transfer}
 use Rattle.transfer.specs.Transfer.{TransferModel, transfer_model}

@@ -1,4 +1,4 @@
--- The code's parts as the definitions see them. Assumes nothing.
+-- The code's parts as the definitions see them.
 use Rattle.exchange.specs.declared.bank.Masters as masters
 use Rattle.exchange.specs.declared.bank.Ports as ports
 use Rattle.exchange.specs.declared.bus.Bus.{Bus}
@@ -19,12 +19,12 @@ use Rattle.wire.specs.Wire.{signal}
 
 -- a bus as the rules see it, its banks by what they stand for
 abbrev pub bus_model : {M P : Type 0} {masters : masters.Ghosts M} {ports : ports.Ghosts P} → Bus M P masters ports → BusModel masters.hosts ports.devices
-bus_model {masters = masters} {ports = ports} u = record { wire = u.wire; masters = masters.stand u.masters; ports = ports.stand u.ports }
+bus_model {masters = masters} {ports = ports} u = record { wire = u.wire; masters = masters.model u.masters; ports = ports.model u.ports }
 
 abbrev pub run_model : Run → RunModel
 run_model r = record { ticks = r.ticks; outcomes = r.outcomes; load = r.load }
 
--- MERGED: -- What a tick and a run make of a bus, and by which calls its devices went from one value to another. Assumes nothing.
+-- MERGED: -- What a tick and a run make of a bus, and by which calls its devices went from one value to another.
 module _ (hs : List HostBehaviour) (ds : List Behaviour) {P : Type 0} (asked : P → Signal → HoldAnswers ds → P → Type 0) where
   -- by the calls of the next tick, where hold is answered by a, the ports went from p to q
   abbrev pub TickAsked : BusModel hs ds → HoldAnswers ds → P → P → Type 0

@@ -25,36 +25,36 @@ pub struct End;
 pub trait Masters {
     ghost hosts: { List HostBehaviour };
 
-    ghost stand: { Self → Bank HostedMaster hosts };
+    ghost model: { Self → Bank HostedMaster hosts };
 
     // One bank has the very hosts of another.
     ghost same_hosts: { Self → Self → Type 0 };
 
     fn pulls(&self) -> Pulls
-        ensures { result ≡ all_pulls (bank_list hosted_pulls hosts (stand self.now)) };
+        ensures { result ≡ all_pulls (bank_list hosted_pulls hosts (model self.now)) };
 
     fn any_armed(&self) -> bool
-        ensures { result ≡ any_true (bank_list hosted_is_armed hosts (stand self.now)) };
+        ensures { result ≡ any_true (bank_list hosted_is_armed hosts (model self.now)) };
 
     // As at the making: no master is armed or pulls.
     fn reset(&mut self)
         ensures same { same_hosts self.old self.new }
-        ensures after { stand self.new ≡ bank_map hosted_new hosts (stand self.old) };
+        ensures after { model self.new ≡ bank_map hosted_new hosts (model self.old) };
 
     fn arm(&mut self, master: usize) -> Result<(), Refusal>
         ensures same { same_hosts self.old self.new }
-        ensures after { (answer (λ u. u) result, stand self.new) ≡ arm_master_at hosts (stand self.old) master };
+        ensures after { (answer (λ u. u) result, model self.new) ≡ arm_master_at hosts (model self.old) master };
 
     // Steps every master, and writes its mark to its place, as far as there are places.
     fn step(&mut self, signal: Signal, marks: &mut [Mark])
-        ensures after { stand self.new ≡ bank_map (λ h. hosted_step h signal) hosts (stand self.old) }
-        ensures marks { marks.new ≡ marks_over (bank_list (λ h. hosted_mark h signal) hosts (stand self.old)) marks.old };
+        ensures after { model self.new ≡ bank_map (λ h. hosted_step h signal) hosts (model self.old) }
+        ensures marks { marks.new ≡ marks_over (bank_list (λ h. hosted_mark h signal) hosts (model self.old)) marks.old };
 
     // a clock pair has counts from 1 to 255
-    ghost clocked: { (x : Self) → ClocksInRange hosts (stand x) };
+    ghost clocks_in_range: { (x : Self) → ClocksInRange hosts (model x) };
 
     // a bank that is left alone keeps its hosts
-    ghost own_hosts: { (x : Self) → same_hosts x x };
+    ghost same_hosts_refl: { (x : Self) → same_hosts x x };
 }
 
 // A trait apart from `Masters`, though the pulls of a bank and its reset read alike: what they mean of each part differs,
@@ -62,7 +62,7 @@ pub trait Masters {
 pub trait Ports {
     ghost devices: { List Behaviour };
 
-    ghost stand: { Self → Bank PortModel devices };
+    ghost model: { Self → Bank PortModel devices };
 
     // One bank has the very devices of another.
     ghost same_devices: { Self → Self → Type 0 };
@@ -71,27 +71,27 @@ pub trait Ports {
     ghost asked: { Self → Signal → HoldAnswers devices → Self → Type 0 };
 
     fn pulls(&self) -> Pulls
-        ensures { result ≡ all_pulls (bank_list port_pulls devices (stand self.now)) };
+        ensures { result ≡ all_pulls (bank_list port_pulls devices (model self.now)) };
 
     // As at the making: every port is out, and no device is owed a finish.
     fn reset(&mut self)
         ensures same { same_devices self.old self.new }
-        ensures after { stand self.new ≡ bank_map reset_port devices (stand self.old) };
+        ensures after { model self.new ≡ bank_map reset_port devices (model self.old) };
 
     fn step(&mut self, signal: Signal)
-        ensures { (h : HoldAnswers devices) × AllMayAnswer devices (stand self.old) signal h × (stand self.new ≡ ports_step devices (stand self.old) signal h) × asked self.old signal h self.new };
+        ensures { (h : HoldAnswers devices) × AllMayAnswer devices (model self.old) signal h × (model self.new ≡ ports_step devices (model self.old) signal h) × asked self.old signal h self.new };
 }
 
 impl Masters for End {
     ghost hosts = { [] };
 
-    ghost stand = { λ _. tt };
+    ghost model = { λ _. tt };
 
     ghost same_hosts = { λ _ _. Unit {0} };
 
-    ghost own_hosts = { Prim.search rules };
+    ghost same_hosts_refl = { Prim.search rules };
 
-    ghost clocked = { Prim.search rules };
+    ghost clocks_in_range = { Prim.search rules };
 
     fn pulls(&self) -> Pulls {
         Pulls::none()
@@ -113,7 +113,7 @@ impl Masters for End {
 impl Ports for End {
     ghost devices = { [] };
 
-    ghost stand = { λ _. tt };
+    ghost model = { λ _. tt };
 
     ghost same_devices = { λ _ _. Unit {0} };
 
@@ -131,13 +131,13 @@ impl Ports for End {
 impl<H: Host, B: Masters> Masters for (Master<H>, B) {
     ghost hosts = { H.Host.behaviour ∷ B.Masters.hosts };
 
-    ghost stand = { λ p. (hosted_master H.Host p.0, B.Masters.stand p.1) };
+    ghost model = { λ p. (hosted_master H.Host p.0, B.Masters.model p.1) };
 
     ghost same_hosts = { λ p q. SameHost p.0 q.0 × B.Masters.same_hosts p.1 q.1 };
 
-    ghost own_hosts = { Prim.search rules };
+    ghost same_hosts_refl = { Prim.search rules };
 
-    ghost clocked = { Prim.search rules };
+    ghost clocks_in_range = { Prim.search rules };
 
     fn pulls(&self) -> Pulls {
         self.0.pulls().or(self.1.pulls())
@@ -175,7 +175,7 @@ impl<H: Host, B: Masters> Masters for (Master<H>, B) {
 impl<D: Device, B: Ports> Ports for (Port<D>, B) {
     ghost devices = { D.Device.behaviour ∷ B.Ports.devices };
 
-    ghost stand = { λ p. (port_model D.Device p.0, B.Ports.stand p.1) };
+    ghost model = { λ p. (port_model D.Device p.0, B.Ports.model p.1) };
 
     ghost same_devices = { λ p q. SameDevice p.0 q.0 × B.Ports.same_devices p.1 q.1 };
 

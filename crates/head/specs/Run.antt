@@ -1,4 +1,4 @@
--- What the program prints. Assumes nothing.
+-- What the program prints.
 use Rattle.std.specs.Prelude.{ℕ, ◌*◌, List, [], ◌++◌, codes, decimal, Option, Some, None, Result}
 use Rattle.std.specs.declared.io.Error.{Error}
 use Rattle.transfer.specs.Outcome.{OutcomeModel, outcome_text}

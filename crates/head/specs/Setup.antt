@@ -1,4 +1,4 @@
--- What the parts of the head are made of, before a master is armed. Assumes nothing.
+-- What the parts of the head are made of, before a master is armed.
 use Rattle.std.specs.Prelude.{◌≡◌, ℕ, false, List, [], ◌∷◌, Some, None}
 use Rattle.transfer.specs.declared.draft.Transfer.{Transfer}
 use Rattle.transfer.specs.Transfer.{TransferModel, transfer_model}

@@ -1,4 +1,4 @@
--- What a host means: what it wants by its meaning alone, and its next meaning once it is told an outcome. Assumes nothing.
+-- What a host means: what it wants by its meaning alone, and its next meaning once it is told an outcome.
 use Rattle.std.specs.Prelude.{Bool, cond, Some, None, Option}
 use Rattle.transfer.specs.declared.draft.Transfer.{Transfer}
 use Rattle.transfer.specs.Outcome.{OutcomeModel}

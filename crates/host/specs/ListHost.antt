@@ -1,4 +1,4 @@
--- The list host: up to 8 transfers, one after the other, whatever comes of them. Assumes nothing.
+-- The list host: up to 8 transfers, one after the other, whatever comes of them.
 use Rattle.std.specs.Prelude.{ℕ, cond, List, length, Some, None, Ok, Err, Option, Result, nat_le}
 use Rattle.std.specs.Option.{option_map}
 use Rattle.transfer.specs.Fifo.{first_of, rest_of}

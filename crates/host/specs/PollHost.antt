@@ -1,4 +1,4 @@
--- The poll host: one transfer, wanted until a done outcome whose last byte read meets the mask in some bit. Assumes nothing.
+-- The poll host: one transfer, wanted until a done outcome whose last byte read meets the mask in some bit.
 use Rattle.std.specs.Prelude.{ℕ, Bool, false, cond, not, ◌||◌, List, Some, None, Option, ◌==◌, bit_and}
 use Rattle.std.specs.Option.{option_map}
 use Rattle.transfer.specs.declared.draft.Transfer.{Transfer}

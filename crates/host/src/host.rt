@@ -8,13 +8,13 @@ use transfer::{Outcome, Transfer};
 pub trait Host {
     ghost behaviour: { HostBehaviour };
 
-    ghost means: { Self → behaviour.Meaning };
+    ghost meaning: { Self → behaviour.Meaning };
 
     // Whether it wants a transfer, and which; beside a `false` the transfer says nothing. A flag and no `Option`, so that a
     // make which keeps its transfer, as the poll host, answers both as they stand, without cases.
     fn want(&self) -> (bool, Transfer)
-        ensures { wanted_transfer result ≡ behaviour.want (means self.now) };
+        ensures { wanted_transfer result ≡ behaviour.want (meaning self.now) };
 
     fn told(&mut self, outcome: &Outcome)
-        ensures { means self.new ≡ behaviour.told (means self.old) (outcome_model outcome.now) };
+        ensures { meaning self.new ≡ behaviour.told (meaning self.old) (outcome_model outcome.now) };
 }

@@ -53,7 +53,7 @@ impl ListHost {
 impl Host for ListHost {
     ghost behaviour = { list_host };
 
-    ghost means = { list_host_model };
+    ghost meaning = { list_host_model };
 
     fn want(&self) -> (bool, Transfer) {
         match self.transfers.first() {

@@ -67,7 +67,7 @@ impl PollHost {
 impl Host for PollHost {
     ghost behaviour = { poll_host };
 
-    ghost means = { poll_host_model };
+    ghost meaning = { poll_host_model };
 
     fn want(&self) -> (bool, Transfer) {
         (!self.met, self.transfer)

@@ -1,4 +1,4 @@
--- What the ports asked of their devices in a turn, and what that has to do with strings and outcomes. Assumes nothing.
+-- What the ports asked of their devices in a turn, and what that has to do with strings and outcomes.
 use Rattle.std.specs.Prelude.{◌≡◌, ℕ, zero, suc, ◌+◌, ◌*◌, ◌<◌, ◌≤◌, true, false, cond, ◌&&◌, ◌⊎◌, ◌≢◌, List, [], ◌∷◌, ◌++◌, map, length, take as first, is_some, Some, None, Option, nat_lt, slice_get, slice_index, slice_index_or}
 use Rattle.std.specs.Option.{option_to_list}
 use Rattle.transfer.specs.declared.leg.Direction.TheVariants.{Write, Read}

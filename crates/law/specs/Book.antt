@@ -1,4 +1,4 @@
--- The turn book: who is armed, who contends, and what each host and device means, by turns alone. Assumes nothing.
+-- The turn book: who is armed, who contends, and what each host and device means, by turns alone.
 use Rattle.std.specs.Prelude.{ℕ, Bool, true, false, cond, List, [], ◌∷◌, map, Some, None, Err, Option, Result}
 use Rattle.std.specs.Option.{option_map}
 use Rattle.transfer.specs.declared.draft.Transfer.{Transfer}

@@ -1,4 +1,4 @@
--- A bus, and what an arm and a tick make of it. Assumes nothing.
+-- A bus, and what an arm and a tick make of it.
 use Rattle.std.specs.Prelude.{◌≡◌, ℕ, ◌<◌, Bool, not, ◌&&◌, List, [], ◌∷◌, replicate, Err, Option, Result}
 use Rattle.std.proofs.Common.{zero-lt-suc}
 use Rattle.device.specs.Device.{Behaviour}

@@ -1,4 +1,4 @@
--- What holds of the strings and of the bytes of transfers carried alone. Assumes nothing.
+-- What holds of the strings and of the bytes of transfers carried alone.
 use Rattle.std.specs.Prelude.{◌≡◌, ℕ, zero, suc, ◌+◌, ◌*◌, ◌<◌, ◌≤◌, true, false, ◌⊎◌, ◌↔◌, List, [], ◌∷◌, ◌++◌, length, take, Some, None, Option, ◌≢◌, nat_lt, slice_index, slice_index_or}
 use Rattle.std.specs.List.{fold}
 use Rattle.transfer.specs.declared.leg.Direction.TheVariants.{Write, Read}

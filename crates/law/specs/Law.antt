@@ -1,4 +1,4 @@
--- The law over every use of a bus, in the words of turns, strings and the turn book. Assumes nothing.
+-- The law over every use of a bus, in the words of turns, strings and the turn book.
 use Rattle.std.specs.Prelude.{◌≡◌, ℕ, zero, suc, ◌+◌, ◌<◌, ◌≤◌, Bool, true, false, cond, not, ◌||◌, ◌↔◌, List, [], ◌∷◌, ◌++◌, map, replicate, length, is_some, is_ok, Some, None, Ok, Option, Result, nat_lt, slice_index_or}
 use Rattle.std.specs.List.{fold, count_by}
 use Rattle.device.specs.Device.{Behaviour, Step}

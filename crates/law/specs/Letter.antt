@@ -1,4 +1,4 @@
--- Letters and strings: what a transfer puts on the lines, and which string comes first. Assumes nothing.
+-- Letters and strings: what a transfer puts on the lines, and which string comes first.
 use Rattle.std.specs.Prelude.{ℕ, Bool, true, false, cond, List, [], ◌∷◌, ◌==◌, nat_lt}
 use Rattle.std.specs.Cmp.Lexicographic.{pointwise}
 

@@ -1,4 +1,4 @@
--- The limits of a bus, each of them a choice or drawn from others. Assumes nothing.
+-- The limits of a bus, each of them a choice or drawn from others.
 use Rattle.std.specs.Prelude.{ℕ, ◌+◌, ◌-◌, ◌*◌}
 use Rattle.transfer.specs.Limits.{most_bytes, most_legs, most_count}
 

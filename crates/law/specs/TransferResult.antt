@@ -1,4 +1,4 @@
--- A transfer carried alone over the ports, byte by byte: its string, its outcome and the devices after it. Assumes nothing.
+-- A transfer carried alone over the ports, byte by byte: its string, its outcome and the devices after it.
 use Rattle.std.specs.Prelude.{ℕ, zero, suc, ◌+◌, ◌*◌, Bool, true, false, cond, List, [], ◌∷◌, ◌++◌, map, Some, None, Option, ◌==◌, bit_and}
 use Rattle.transfer.specs.declared.leg.Direction.{Direction}
 use Rattle.transfer.specs.declared.outcome.OutcomeKind.{OutcomeKind}

@@ -1,4 +1,4 @@
--- Worked examples of the refusals, of carried alone letter by letter, and of the turn book. Assumes nothing.
+-- Worked examples of the refusals, of carried alone letter by letter, and of the turn book.
 use Rattle.std.specs.Prelude.{◌≡◌, ℕ, true, false, List, [], ◌∷◌, length, replicate, Some, None, Ok, Err, Option, slice_set}
 use Rattle.transfer.specs.declared.draft.Transfer.{Transfer}
 use Rattle.transfer.specs.declared.outcome.OutcomeKind.TheVariants.{Done, NoAnswer, Refused}

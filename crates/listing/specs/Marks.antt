@@ -1,4 +1,4 @@
--- The text of a tick, where d is its number in digits: a line for each mark. Assumes nothing.
+-- The text of a tick, where d is its number in digits: a line for each mark.
 use Rattle.std.specs.Prelude.{ℕ, suc, Bool, true, false, cond, List, [], ◌∷◌, ◌++◌, codes}
 use Rattle.std.specs.List.{flat_map}
 use Rattle.law.specs.Run.{is_told}

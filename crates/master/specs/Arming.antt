@@ -1,4 +1,4 @@
--- Whether a master is armed, and with what. Assumes nothing.
+-- Whether a master is armed, and with what.
 use Rattle.std.specs.Prelude.{ℕ, Bool, true, false, Some, None, Ok, Err, Option, Result}
 use Rattle.master.specs.declared.arming.Arming.{Arming}
 use Rattle.master.specs.declared.arming.Arming.TheVariants.{Unarmed, Armed}

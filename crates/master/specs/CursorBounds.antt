@@ -1,4 +1,4 @@
--- Which leg a cursor is in, and how many bytes it may have read by then. Assumes nothing.
+-- Which leg a cursor is in, and how many bytes it may have read by then.
 use Rattle.std.specs.Prelude.{ℕ, ◌+◌, ◌-◌, ◌*◌, None, Option}
 use Rattle.transfer.specs.Limits.{most_bytes, most_bytes_read}
 use Rattle.transfer.specs.declared.leg.Leg.{Leg}

@@ -1,4 +1,4 @@
--- A master with the host that it serves. Assumes nothing.
+-- A master with the host that it serves.
 use Rattle.std.specs.Prelude.{◌≡◌, ℕ, Bool, Some, None, Option, Result}
 use Rattle.std.specs.Option.{option_map}
 use Rattle.transfer.specs.Transfer.{transfer_model}
@@ -63,7 +63,7 @@ module _ (h : HostBehaviour) where
 
 -- a master as the rules see it, its host by what that means
 abbrev pub hosted_master : {H : Type 0} → (host : Ghosts H) → Master H → HostedMaster host.behaviour
-hosted_master host m = record { master = master_model m.state; meaning = host.means m.host }
+hosted_master host m = record { master = master_model m.state; meaning = host.meaning m.host }
 
 -- a master has the very host of another
 abbrev pub SameHost : {H : Type 0} → Master H → Master H → Type 0

@@ -1,4 +1,4 @@
--- One master after one event: the rules of a contender. Assumes nothing.
+-- One master after one event: the rules of a contender.
 use Rattle.std.specs.Prelude.{ℕ, ◌-◌, Bool, true, false, cond, Option, Result, ◌==◌, nat_lt}
 use Rattle.std.specs.Option.{unwrap_or}
 use Rattle.transfer.specs.Transfer.{transfer_model}
@@ -7,7 +7,7 @@ use Rattle.master.specs.declared.arming.Arming.{Arming}
 use Rattle.master.specs.declared.arming.Arming.TheVariants.{Unarmed, Armed}
 use Rattle.master.specs.declared.master.MasterState.{MasterState}
 use Rattle.master.specs.declared.master.Stage.{Stage}
-use Rattle.master.specs.declared.master.Stage.TheVariants.{Waiting, Opening, Showing, Ending}
+use Rattle.master.specs.declared.master.Stage.TheVariants.{Idle, StartPending, Sending, StopPending}
 use Rattle.master.specs.declared.master.Verdict.{Verdict}
 use Rattle.master.specs.declared.master.Verdict.TheVariants.{Quiet, Lost, Told}
 use Rattle.master.specs.declared.symbol.Symbol.{Symbol}
@@ -128,10 +128,10 @@ module _ (W : Script) where
       (a.0, record { low = m.low; high = m.high; arming = a.1; stage = m.stage; count = m.count; pulls = m.pulls })
 
 abbrev pub stage_model : Stage → StageModel transfers
-stage_model Waiting = idle
-stage_model (Opening c) = start_pending (cursor_model c)
-stage_model (Showing s c) = sending s (cursor_model c)
-stage_model (Ending c) = stop_pending (cursor_model c)
+stage_model Idle = idle
+stage_model (StartPending c) = start_pending (cursor_model c)
+stage_model (Sending s c) = sending s (cursor_model c)
+stage_model (StopPending c) = stop_pending (cursor_model c)
 
 abbrev pub master_model : MasterState → MasterModel transfers
 master_model m = record {

@@ -1,4 +1,4 @@
--- What a contender plays, symbol by symbol. Assumes nothing.
+-- What a contender plays, symbol by symbol.
 use Rattle.std.specs.Prelude.{Bool}
 use Rattle.transfer.specs.Transfer.{TransferModel}
 use Rattle.transfer.specs.Outcome.{OutcomeModel}

@@ -1,4 +1,4 @@
--- The symbols that a contender shows. Assumes nothing.
+-- The symbols that a contender shows.
 use Rattle.std.specs.Prelude.{Bool, true, false}
 use Rattle.master.specs.declared.symbol.Symbol.{Symbol}
 use Rattle.master.specs.declared.symbol.Symbol.TheVariants.{Zero, One, Listen, RepeatedStart, Stop}

@@ -4,7 +4,7 @@ ghost use Rattle.transfer.specs.Leg.{body_model, body_size};
 ghost use Rattle.master.specs.CursorBounds.{most_read_at};
 
 use transfer::{Leg, OutcomeKind, ReadBytes};
-use wire::Partial;
+use wire::ByteProgress;
 
 mod steps;
 
@@ -32,7 +32,7 @@ pub struct Cursor {
     // 0 is the address
     byte: u8,
     // the bits of it so far, of which the ninth is the acknowledge, and what was read by them
-    under_way: Partial,
+    under_way: ByteProgress,
     read: ReadBytes,
     kind: OutcomeKind,
     ghost in_leg: { byte ≤ body_size (body_model leg.body) },

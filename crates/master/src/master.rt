@@ -12,12 +12,12 @@ mod steps;
 #[derive(Clone, Copy)]
 pub enum Stage {
     // no contender, or lost
-    Waiting,
+    Idle,
     // from the pull that makes the start to the first fall
-    Opening(Cursor),
-    Showing(Symbol, Cursor),
+    StartPending(Cursor),
+    Sending(Symbol, Cursor),
     // SDA was let go for the stop in the last tick
-    Ending(Cursor),
+    StopPending(Cursor),
 }
 
 // What a tick makes of a master.

@@ -1,4 +1,4 @@
--- What the program prints for what it reads. Assumes nothing.
+-- What the program prints for what it reads.
 use Rattle.std.specs.Prelude.{◌≡◌, ℕ, ◌*◌, ◌⊎◌, List, [], ◌∷◌, Option, Err, Result}
 use Rattle.std.specs.declared.io.Error.{Error}
 use Rattle.device.specs.RegisterFile.{register_file}

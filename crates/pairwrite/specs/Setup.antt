@@ -1,4 +1,4 @@
--- The bus of the run before it is armed. Assumes nothing.
+-- The bus of the run before it is armed.
 use Rattle.std.specs.Prelude.{◌≡◌, ℕ, [], ◌∷◌, None}
 use Rattle.transfer.specs.declared.draft.Transfer.{Transfer}
 use Rattle.transfer.specs.Transfer.{TransferModel, transfer_model}

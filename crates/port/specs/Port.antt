@@ -1,4 +1,4 @@
--- One port after one event: select, put, take, finish and hold. Assumes nothing.
+-- One port after one event: select, put, take, finish and hold.
 use Rattle.std.specs.Prelude.{◌≡◌, ℕ, suc, ◌<◌, ◌-◌, ◌/◌, ◌%◌, Bool, true, false, cond, not, ◌&&◌, Some, None, Option, ◌==◌, nat_lt, List, [], ◌∷◌}
 use Rattle.transfer.specs.declared.leg.Direction.{Direction}
 use Rattle.transfer.specs.declared.leg.Direction.TheVariants.{Write, Read}
@@ -107,13 +107,13 @@ reset_port b p = new_port b p.address p.meaning
 
 -- a port as the rules see it, its device by what that means
 abbrev pub port_model : {D : Type 0} → (device : Ghosts D) → Port D → PortModel device.behaviour
-port_model device p = record { address = p.address.number; meaning = device.means p.device; owed = p.owes_finish; mode = p.mode; hold = p.hold }
+port_model device p = record { address = p.address.number; meaning = device.meaning p.device; owed = p.owes_finish; mode = p.mode; hold = p.hold }
 
 -- a port has the very device of another
 abbrev pub SameDevice : {D : Type 0} → Port D → Port D → Type 0
 SameDevice p q = q.device ≡ p.device
 
--- MERGED: -- What a port asks its device in a tick. Assumes nothing.
+-- MERGED: -- What a port asks its device in a tick.
 -- whether it asks for how long to hold where a bit counts: at a ninth bit that leaves it in
 abbrev pub asks_hold_at_bit : Mode → Bool → Bool
 asks_hold_at_bit Out x = false
@@ -180,8 +180,8 @@ module _ {D : Type 0} (device : Ghosts D) where
   -- these steps took a device from x to z, then hold with the answer h where it was asked, and nothing else
   abbrev pub AskedBy : D → List Step → Bool → ℕ → D → Type 0
   AskedBy x [] false h z = z ≡ x
-  AskedBy x [] true h z = device.held x h z
-  AskedBy x (s ∷ ss) v h z = (y : D) × device.went x s y × AskedBy y ss v h z
+  AskedBy x [] true h z = device.holds_to x h z
+  AskedBy x (s ∷ ss) v h z = (y : D) × device.steps_to x s y × AskedBy y ss v h z
 
   -- what a tick makes of the device of a port, where hold answers h
   abbrev pub PortAsked : Port D → Signal → ℕ → Port D → Type 0
@@ -189,5 +189,5 @@ module _ {D : Type 0} (device : Ghosts D) where
 
   -- the device of a port was asked hold, once, and the port keeps its answer
   abbrev pub HoldAsked : Port D → Port D → Type 0
-  HoldAsked p q = ForSomeHold (λ h. device.behaviour.holds (device.means q.device) h × AskedBy p.device [] true h q.device ×
+  HoldAsked p q = ForSomeHold (λ h. device.behaviour.holds (device.meaning q.device) h × AskedBy p.device [] true h q.device ×
       (port_model device q ≡ with_hold device.behaviour (port_model device p) h))

@@ -4,4 +4,4 @@
 mod port;
 
 pub use port::{Mode, Port};
-pub use wire::Partial;
+pub use wire::ByteProgress;

@@ -1,6 +1,6 @@
 // A port: its address, its device and where it is in a byte.
 use transfer::{Address, Direction};
-use wire::Partial;
+use wire::ByteProgress;
 
 mod steps;
 
@@ -9,12 +9,12 @@ pub enum Mode {
     // until the next start
     Out,
     // the bits so far of the byte that comes
-    Addressing(Partial),
-    Writing(Partial),
+    Addressing(ByteProgress),
+    Writing(ByteProgress),
     // in the ninth bit of a byte that got yes
     Acknowledging(Direction),
     // the bits shown so far of the byte that goes, and its ninth bit too
-    Reading(Partial),
+    Reading(ByteProgress),
 }
 
 // Clauses see it by `port_model`: the value of a model cannot name what a device means.

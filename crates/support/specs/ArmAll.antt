@@ -1,4 +1,4 @@
--- The masters of a bus, armed one after the other. Assumes nothing.
+-- The masters of a bus, armed one after the other.
 use Rattle.std.specs.Prelude.{ℕ, zero, suc, List}
 use Rattle.device.specs.Device.{Behaviour}
 use Rattle.host.specs.Host.{HostBehaviour}

@@ -1,4 +1,4 @@
--- What is filled as it is made, with most_items at most; more are refused with 4. Assumes nothing.
+-- What is filled as it is made, with most_items at most; more are refused with 4.
 use Rattle.std.specs.Prelude.{ℕ, cond, List, length, None, Ok, Err, Result, nat_le}
 use Rattle.transfer.specs.declared.draft.Transfer.{Transfer}
 use Rattle.transfer.specs.Limits.{most_items}

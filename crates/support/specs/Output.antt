@@ -1,4 +1,4 @@
--- What is written of a text, whole or in part. Assumes nothing.
+-- What is written of a text, whole or in part.
 use Rattle.std.specs.Prelude.{◌≡◌, ℕ, List, ◌++◌, Option, Result, MatchResult}
 use Rattle.std.specs.Io.KnownBytes.{Appends}
 use Rattle.std.specs.Fmt.{WritesInCalls}

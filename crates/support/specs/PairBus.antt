@@ -1,4 +1,4 @@
--- A bus of two masters and a register file, before a master is armed. Assumes nothing.
+-- A bus of two masters and a register file, before a master is armed.
 use Rattle.std.specs.Prelude.{ℕ, [], ◌∷◌}
 use Rattle.transfer.specs.declared.clock.ClockPair.{ClockPair}
 use Rattle.device.specs.RegisterFile.{register_file, new_registers}

@@ -1,4 +1,4 @@
--- A run of a bus whose masters are armed before each of its ticks, and what is printed of it. Assumes nothing.
+-- A run of a bus whose masters are armed before each of its ticks, and what is printed of it.
 use Rattle.std.specs.Prelude.{◌≡◌, ℕ, zero, suc, ◌<◌, ◌≤◌, ◌⊎◌, true, false, cond, List, [], ◌∷◌, ◌++◌, decimal}
 use Rattle.std.specs.Fmt.{WritesInCalls}
 use Rattle.std.specs.declared.io.Error.{Error}

@@ -21,7 +21,7 @@ pub struct Clocks {
 
 // The masters serve these hosts, and the register file has this address.
 pub fn pair_bus<H: Host + Drop>(address: Address, clocks: Clocks, first: H, second: H) -> PairBus<H>
-    ensures { bus_model result ≡ new_pair_bus H.Host.behaviour address.number clocks (H.Host.means first) (H.Host.means second) }
+    ensures { bus_model result ≡ new_pair_bus H.Host.behaviour address.number clocks (H.Host.meaning first) (H.Host.meaning second) }
 {
     let first = Master::new(clocks.first, first);
     let second = Master::new(clocks.second, second);

@@ -1,4 +1,4 @@
--- What it is for a text to be a number in decimal. Assumes nothing.
+-- What it is for a text to be a number in decimal.
 --     AllDigits text      it has no byte but the digits 0 to 9
 --     read-on n text      the number that its digits write in base ten, after those of n
 use Rattle.std.specs.Prelude.{◌≡◌, ℕ, ◌+◌, ◌-◌, ◌*◌, ◌<◌, ◌≤◌, List, [], ◌∷◌, length, slice_index_or}

@@ -1,4 +1,4 @@
--- Digits, a byte in two of them, and bytes. Assumes nothing.
+-- Digits, a byte in two of them, and bytes.
 use Rattle.std.specs.Prelude.{ℕ, ◌+◌, ◌/◌, ◌%◌, cond, List, [], ◌∷◌, ◌++◌, codes, nat_lt}
 use Rattle.std.specs.List.{flat_map}
 

@@ -1,4 +1,4 @@
--- Which numbers are addresses, and which of them call a port. Assumes nothing.
+-- Which numbers are addresses, and which of them call a port.
 use Rattle.std.specs.Prelude.{ℕ, Bool, cond, ◌&&◌, Ok, Err, Result, ◌==◌, nat_le}
 use Rattle.transfer.specs.Limits.{least_address, most_address}
 

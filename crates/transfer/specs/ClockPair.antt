@@ -1,4 +1,4 @@
--- Which counts a clock pair may have. Assumes nothing.
+-- Which counts a clock pair may have.
 use Rattle.std.specs.Prelude.{ℕ, Bool, cond, ◌&&◌, Ok, Err, Result, nat_le}
 use Rattle.transfer.specs.Limits.{most_count}
 

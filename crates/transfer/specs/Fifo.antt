@@ -1,4 +1,4 @@
--- A list of up to 8 items by those that are left of it. Assumes nothing.
+-- A list of up to 8 items by those that are left of it.
 use Rattle.std.specs.Prelude.{ℕ, cond, List, [], ◌∷◌, length, Some, None, Ok, Err, Option, Result, nat_le}
 use Rattle.transfer.specs.Limits.{most_items}
 

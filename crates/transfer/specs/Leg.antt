@@ -1,4 +1,4 @@
--- A leg: to which address, and the bytes that it writes or how many it reads. Assumes nothing.
+-- A leg: to which address, and the bytes that it writes or how many it reads.
 use Rattle.std.specs.Prelude.{ℕ, Bool, true, false, List, [], length}
 use Rattle.transfer.specs.declared.leg.Body.{Body}
 use Rattle.transfer.specs.declared.leg.Body.TheVariants.{Write, Read}

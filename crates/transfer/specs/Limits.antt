@@ -1,4 +1,4 @@
--- The limits of what is sent, each of them a choice or drawn from those above it. Assumes nothing.
+-- The limits of what is sent, each of them a choice or drawn from those above it.
 use Rattle.std.specs.Prelude.{ℕ, ◌-◌, ◌*◌, ◌^◌}
 
 -- of the seven-bit addresses the eight lowest and the eight highest are reserved

@@ -1,4 +1,4 @@
--- Lists of bytes. Assumes nothing.
+-- Lists of bytes.
 use Rattle.std.specs.Prelude.{ℕ, ◌<◌, List, slice_index}
 
 abbrev pub IsOctets : List ℕ → Type 0

@@ -1,4 +1,4 @@
--- An outcome: its kind, and the bytes read. Assumes nothing.
+-- An outcome: its kind, and the bytes read.
 use Rattle.std.specs.Prelude.{ℕ, List, ◌++◌, codes, decimal}
 use Rattle.transfer.specs.declared.outcome.Outcome.{Outcome}
 use Rattle.transfer.specs.declared.outcome.OutcomeKind.{OutcomeKind}
@@ -13,7 +13,7 @@ pub record OutcomeModel : Type 0 where
 abbrev pub outcome_model : Outcome → OutcomeModel
 outcome_model o = record { kind = o.kind; bytes = bytes_in o.read }
 
--- MERGED: -- The text of an outcome. Assumes nothing.
+-- MERGED: -- The text of an outcome.
 abbrev pub kind_text : OutcomeKind → List ℕ → List ℕ
 kind_text Done xs = codes "done" ++ bytes_text xs
 kind_text (NoAnswer p) xs = codes "no answer to leg " ++ decimal p.leg

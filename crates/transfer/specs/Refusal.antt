@@ -1,4 +1,4 @@
--- The number and the message of each refusal, and what a call that may refuse answers. Assumes nothing.
+-- The number and the message of each refusal, and what a call that may refuse answers.
 use Rattle.std.specs.Prelude.{ℕ, List, Ok, Err, Result, codes}
 use Rattle.transfer.specs.declared.refusal.Refusal.{Refusal}
 use Rattle.transfer.specs.declared.refusal.Refusal.TheVariants.{AddressOutOfRange, ClockOutOfRange, TwoLegsAlready, LengthOutOfRange, NoSuchMaster, ArmedAlready, NothingWanted, TooManyTicks}

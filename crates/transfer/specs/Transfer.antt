@@ -1,4 +1,4 @@
--- A transfer, and the calls of a draft, which is seen as the transfer that it would be sealed into. Assumes nothing.
+-- A transfer, and the calls of a draft, which is seen as the transfer that it would be sealed into.
 use Rattle.std.specs.Prelude.{ℕ, cond, ◌&&◌, List, length, Some, None, Ok, Err, Option, Result, nat_le}
 use Rattle.std.specs.Option.{option_map}
 use Rattle.transfer.specs.declared.draft.Transfer.{Transfer}
@@ -36,7 +36,7 @@ with_second a g (Some h) = (Err 3, record { first = g; second = Some h })
 abbrev pub after_second_leg : ℕ → TransferModel → Result (Unit {0}) ℕ × TransferModel
 after_second_leg a d = with_second a d.first d.second
 
--- MERGED: -- Transfers put together in one call. Assumes nothing.
+-- MERGED: -- Transfers put together in one call.
 -- 4 where a write has more than the most bytes, or a read none or more than these
 abbrev pub one_write : ℕ → List ℕ → Result TransferModel ℕ
 one_write a xs = cond (nat_le (length xs) most_bytes)

@@ -1,6 +1,6 @@
--- A byte as bits, the highest first. Assumes nothing.
+-- A byte as bits, the highest first.
 use Rattle.std.specs.Prelude.{ℕ, ◌+◌, ◌*◌, ◌/◌, ◌%◌, ◌^◌, Bool, true, false, ◌==◌}
-use Rattle.wire.specs.declared.byte_progress.Partial.{Partial}
+use Rattle.wire.specs.declared.byte_progress.ByteProgress.{ByteProgress}
 
 abbrev pub bit_at : ℕ → ℕ → Bool
 bit_at x k = (x / 2 ^ k) % 2 == 1
@@ -14,5 +14,5 @@ abbrev pub shift_in : ℕ → Bool → ℕ
 shift_in x b = x % 128 * 2 + bit_value b
 
 -- a byte under way, n of its bits passed
-abbrev pub progress : ℕ → ℕ → Partial
+abbrev pub progress : ℕ → ℕ → ByteProgress
 progress n v = record { bits = n; value = v }

@@ -1,11 +1,11 @@
--- What a wire says in bytes, and the decoder after an event. Assumes nothing.
+-- What a wire says in bytes, and the decoder after an event.
 use Rattle.std.specs.Prelude.{suc, Bool, true, false, cond, Some, None, Option, nat_lt, ℕ, List, [], ◌∷◌, ◌++◌, codes}
 use Rattle.wire.specs.declared.decoder.Acknowledge.{Acknowledge}
 use Rattle.wire.specs.declared.decoder.Acknowledge.TheVariants as acknowledge
 use Rattle.wire.specs.declared.decoder.Decoded.{Decoded}
 use Rattle.wire.specs.declared.decoder.Decoded.TheVariants as decoded
 use Rattle.wire.specs.declared.decoder.Decoder.{Decoder}
-use Rattle.wire.specs.declared.byte_progress.Partial.{Partial}
+use Rattle.wire.specs.declared.byte_progress.ByteProgress.{ByteProgress}
 use Rattle.wire.specs.declared.event.Event.{Event}
 use Rattle.wire.specs.declared.event.Event.TheVariants.{Rise, Fall, Start, Stop, SteadyHigh, SteadyLow}
 use Rattle.wire.specs.ByteProgress.{shift_in, progress}
@@ -14,7 +14,7 @@ use Rattle.text.specs.Digits.{hex_digits}
 use Rattle.wire.specs.declared.decoder.Acknowledge.TheVariants as acknowledge
 use Rattle.wire.specs.declared.decoder.DecodedByte.{DecodedByte}
 
-abbrev pub no_bits : Partial
+abbrev pub no_bits : ByteProgress
 no_bits = progress 0 0
 
 abbrev pub new_decoder : Decoder
@@ -26,13 +26,13 @@ acknowledge_of false = acknowledge.A
 acknowledge_of true = acknowledge.N
 
 -- a byte is eight bits, the highest first, and the ninth acknowledges it
-abbrev pub take_bit : Partial → Bool → Decoded × Partial
+abbrev pub take_bit : ByteProgress → Bool → Decoded × ByteProgress
 take_bit p b = cond (nat_lt p.bits 8)
     (decoded.Nothing, progress (suc p.bits) (shift_in p.value b))
     (decoded.Byte (record { value = p.value; acknowledge = acknowledge_of b }), no_bits)
 
 -- an event, with the bit that counts at it; a start or a stop begins afresh
-abbrev pub byte_step : Partial → Event → Option Bool → Decoded × Partial
+abbrev pub byte_step : ByteProgress → Event → Option Bool → Decoded × ByteProgress
 byte_step p Start o = (decoded.Start, no_bits)
 byte_step p Stop o = (decoded.Stop, no_bits)
 byte_step p Fall None = (decoded.Nothing, p)
@@ -45,7 +45,7 @@ abbrev pub decoder_step : Decoder → Event → Decoded × Decoder
 decoder_step s e = let w = byte_step s.byte e (counted_bit s.latch.level e) in
     (w.0, record { latch = record { level = latch_after s.latch.level e }; byte = w.1 })
 
--- MERGED: -- The text of a byte with its acknowledge. Assumes nothing.
+-- MERGED: -- The text of a byte with its acknowledge.
 abbrev pub letter_of : Acknowledge → ℕ
 letter_of acknowledge.A = 65
 letter_of acknowledge.N = 78

@@ -4,43 +4,43 @@ ghost use Rattle.wire.specs.ByteProgress.{bit_at, shift_in, progress};
 
 // A byte under way: how many of its bits have passed, and their value.
 #[derive(Clone, Copy, PartialEq, Eq, Debug)]
-pub struct Partial {
+pub struct ByteProgress {
     pub bits: u8,
     pub value: u8,
 }
 
-impl Partial {
+impl ByteProgress {
     // A byte of this value of which no bit has passed.
-    pub fn of(value: u8) -> Partial
+    pub fn of(value: u8) -> ByteProgress
         ensures { result ≡ progress 0 value }
     {
-        Partial { bits: 0, value }
+        ByteProgress { bits: 0, value }
     }
 
     // One bit more of a byte that comes.
-    pub fn received(self, bit: bool) -> Partial
+    pub fn received(self, bit: bool) -> ByteProgress
         requires { self.bits < 255 }
         ensures { result ≡ progress (suc self.bits) (shift_in self.value bit) }
     {
-        Partial {
+        ByteProgress {
             bits: self.bits + 1,
             value: shift_in(self.value, bit),
         }
     }
 
     // One bit more of a byte that goes.
-    pub fn shown(self) -> Partial
+    pub fn shown(self) -> ByteProgress
         requires { self.bits < 255 }
         ensures { result ≡ progress (suc self.bits) self.value }
     {
-        Partial {
+        ByteProgress {
             bits: self.bits + 1,
             value: self.value,
         }
     }
 }
 
-pub fn digit_at(byte: u8, place: u8) -> bool
+pub fn bit_at(byte: u8, place: u8) -> bool
     requires { place < 8 }
     ensures { result ≡ bit_at byte place }
 {

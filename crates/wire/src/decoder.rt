@@ -2,7 +2,7 @@
 ghost use Rattle.std.specs.Prelude.{◌≡◌};
 ghost use Rattle.wire.specs.Decoder.{acknowledge_of, new_decoder, take_bit, decoder_step};
 
-use crate::byte_progress::Partial;
+use crate::byte_progress::ByteProgress;
 use crate::event::Event;
 use crate::latch::Latch;
 
@@ -43,11 +43,11 @@ pub enum Decoded {
 #[derive(Clone, Copy, PartialEq, Eq, Debug)]
 pub struct Decoder {
     latch: Latch,
-    byte: Partial,
+    byte: ByteProgress,
 }
 
 // The ninth bit acknowledges the eight before it.
-fn take_bit(byte: Partial, bit: bool) -> (Decoded, Partial)
+fn take_bit(byte: ByteProgress, bit: bool) -> (Decoded, ByteProgress)
     ensures { result ≡ take_bit byte bit }
 {
     if byte.bits < 8 {
@@ -57,7 +57,7 @@ fn take_bit(byte: Partial, bit: bool) -> (Decoded, Partial)
         value: byte.value,
         acknowledge: bit.into(),
     };
-    (Decoded::Byte(decoded), Partial::of(0))
+    (Decoded::Byte(decoded), ByteProgress::of(0))
 }
 
 impl Decoder {
@@ -67,7 +67,7 @@ impl Decoder {
     {
         Decoder {
             latch: Latch::new(),
-            byte: Partial::of(0),
+            byte: ByteProgress::of(0),
         }
     }
 
@@ -77,8 +77,8 @@ impl Decoder {
     {
         let bit = self.latch.step(event);
         let (decoded, byte) = match (event, bit) {
-            (Event::Start, _) => (Decoded::Start, Partial::of(0)),
-            (Event::Stop, _) => (Decoded::Stop, Partial::of(0)),
+            (Event::Start, _) => (Decoded::Start, ByteProgress::of(0)),
+            (Event::Stop, _) => (Decoded::Stop, ByteProgress::of(0)),
             (Event::Fall, Some(bit)) => take_bit(self.byte, bit),
             _ => (Decoded::Nothing, self.byte),
         };

@@ -11,7 +11,7 @@ mod pulls;
 mod tests;
 mod wire;
 
-pub use byte_progress::{Partial, digit_at, shift_in};
+pub use byte_progress::{ByteProgress, bit_at, shift_in};
 pub use decoder::{Acknowledge, Decoded, DecodedByte, Decoder};
 pub use event::Event;
 pub use latch::Latch;

@@ -34,7 +34,7 @@ impl RegisterFile {
 impl Device for RegisterFile {
     ghost behaviour = { register_file };
 
-    ghost means = { register_file_model };
+    ghost meaning = { register_file_model };
 
     fn select(&mut self, direction: Direction) -> bool {
         if direction == Direction::Write {

@@ -25,13 +25,13 @@ impl<M: Masters, P: Ports> Bus<M, P> {
         requires some_master { 1 ≤ length M.Masters.hosts }
         requires few_masters { length M.Masters.hosts ≤ most_masters }
         requires few_ports { length P.Ports.devices ≤ most_ports }
-        ensures made { bus_model result ≡ new_bus M.Masters.hosts P.Ports.devices (M.Masters.stand masters) (P.Ports.stand ports) }
-        ensures law { EveryUse M.Masters.hosts P.Ports.devices (M.Masters.stand masters) (P.Ports.stand ports) }
+        ensures made { bus_model result ≡ new_bus M.Masters.hosts P.Ports.devices (M.Masters.model masters) (P.Ports.model ports) }
+        ensures law { EveryUse M.Masters.hosts P.Ports.devices (M.Masters.model masters) (P.Ports.model ports) }
         ensures strings { StringLaws P.Ports.devices P.Ports.devices }
         ensures bytes { ByteLaws P.Ports.devices }
         ensures hosts { M.Masters.same_hosts masters result.masters }
         ensures devices { P.Ports.same_devices ports result.ports }
-        ensures asked { EveryAsked M.Masters.hosts P.Ports.devices (M.Masters.stand masters) (P.Ports.stand ports) }
+        ensures asked { EveryAsked M.Masters.hosts P.Ports.devices (M.Masters.model masters) (P.Ports.model ports) }
     {
         masters.reset();
         ports.reset();
@@ -95,8 +95,8 @@ impl<M: Masters, P: Ports> Bus<M, P> {
     pub fn close(mut self) -> (M, P)
         ensures hosts { M.Masters.same_hosts self.masters result.0 }
         ensures devices { P.Ports.same_devices self.ports result.1 }
-        ensures masters { M.Masters.stand result.0 ≡ bank_map hosted_new M.Masters.hosts (M.Masters.stand self.masters) }
-        ensures ports { P.Ports.stand result.1 ≡ bank_map reset_port P.Ports.devices (P.Ports.stand self.ports) }
+        ensures masters { M.Masters.model result.0 ≡ bank_map hosted_new M.Masters.hosts (M.Masters.model self.masters) }
+        ensures ports { P.Ports.model result.1 ≡ bank_map reset_port P.Ports.devices (P.Ports.model self.ports) }
     {
         self.masters.reset();
         self.ports.reset();

@@ -50,7 +50,7 @@ impl<M: Masters, P: Ports> Bus<M, P> {
         ensures all { result ≡ some_count (told_at _ _ (bus_model self.old)) }
         ensures after { (t : Tick) × TicksTo self.old t self.new }
     {
-        self.tick().outcomes()
+        self.tick().outcome_count()
     }
 }
 

@@ -1,4 +1,4 @@
--- What is proved of a transfer alone: played bit by bit it is carried byte by byte. Assumes nothing.
+-- What is proved of a transfer alone: played bit by bit it is carried byte by byte.
 use Rattle.std.proofs.Common.{◌≡◌, ℕ, ◌≤◌, List, map}
 use Rattle.transfer.specs.Transfer.{TransferModel}
 use Rattle.device.specs.Device.{Behaviour}

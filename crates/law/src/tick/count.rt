@@ -8,7 +8,7 @@ use master::Mark;
 
 impl Tick {
     // How many outcomes it told.
-    pub fn outcomes(&self) -> u32
+    pub fn outcome_count(&self) -> u32
         ensures few { result ≤ most_masters }
         ensures all { result ≡ told_count self.now.marks }
     {

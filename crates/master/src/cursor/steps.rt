@@ -13,7 +13,7 @@ use crate::symbol::Symbol;
 use transfer::{
     Body, BytePlace, Direction, Leg, LegPlace, Outcome, OutcomeKind, ReadBytes, Transfer,
 };
-use wire::{Partial, digit_at};
+use wire::{ByteProgress, bit_at};
 
 impl Rest {
     fn leg_number(self) -> u8
@@ -45,7 +45,7 @@ impl Cursor {
             leg,
             rest: Rest::First(next),
             byte: 0,
-            under_way: Partial::of(0),
+            under_way: ByteProgress::of(0),
             read: ReadBytes::new(),
             kind: OutcomeKind::Done,
         }
@@ -88,7 +88,7 @@ impl Cursor {
     {
         let bits = self.under_way.bits;
         match (self.is_own(), bits < 8) {
-            (true, true) => Symbol::from(digit_at(self.sent_byte(), 7 - bits)),
+            (true, true) => Symbol::from(bit_at(self.sent_byte(), 7 - bits)),
             (true, false) | (false, true) => Symbol::Listen,
             (false, false) => Symbol::from(self.byte >= self.leg.size()),
         }

@@ -14,7 +14,7 @@ use wire::{Pulls, Signal};
 
 impl<H: Host> Master<H> {
     pub fn new(clock: ClockPair, host: H) -> Master<H>
-        ensures made { hosted_master H.Host result ≡ record { master = new_master transfers clock.low clock.high; meaning = H.Host.means host } }
+        ensures made { hosted_master H.Host result ≡ record { master = new_master transfers clock.low clock.high; meaning = H.Host.meaning host } }
         ensures same { result.host ≡ host }
     {
         Master {

@@ -19,7 +19,7 @@ impl MasterState {
         MasterState {
             clock,
             arming: Arming::Unarmed,
-            stage: Stage::Waiting,
+            stage: Stage::Idle,
             count: 0,
             pulls: Pulls::none(),
         }
@@ -30,29 +30,29 @@ impl MasterState {
     {
         // by event first: all masters meet the same one, so its branch is foreseen from the second on
         match (signal.event, &mut self.stage) {
-            (Event::SteadyHigh, Stage::Waiting) if signal.free_and_high => self.contend(),
-            (Event::SteadyLow, Stage::Opening(_) | Stage::Showing(..)) => {
+            (Event::SteadyHigh, Stage::Idle) if signal.free_and_high => self.contend(),
+            (Event::SteadyLow, Stage::StartPending(_) | Stage::Sending(..)) => {
                 self.count = self.count.saturating_sub(1);
                 self.pulls.scl = self.count > 0;
                 Verdict::Quiet
             }
-            (Event::SteadyHigh, Stage::Opening(_) | Stage::Showing(..)) => {
+            (Event::SteadyHigh, Stage::StartPending(_) | Stage::Sending(..)) => {
                 self.count = self.count.saturating_sub(1);
                 self.pulls.scl = self.count == 0;
                 Verdict::Quiet
             }
-            (Event::Fall, Stage::Opening(cursor)) => {
+            (Event::Fall, Stage::StartPending(cursor)) => {
                 let symbol = cursor.symbol();
-                self.stage = Stage::Showing(symbol, *cursor);
+                self.stage = Stage::Sending(symbol, *cursor);
                 self.pull_for(symbol)
             }
-            (Event::Fall, Stage::Showing(symbol, cursor)) => {
+            (Event::Fall, Stage::Sending(symbol, cursor)) => {
                 cursor.advance(signal.bit.unwrap_or(true));
                 *symbol = cursor.symbol();
                 let symbol = *symbol;
                 self.pull_for(symbol)
             }
-            (Event::Rise(sda), Stage::Showing(symbol, cursor)) => match (*symbol, sda) {
+            (Event::Rise(sda), Stage::Sending(symbol, cursor)) => match (*symbol, sda) {
                 // 1 and the repeated start are lost under a low
                 (Symbol::One | Symbol::RepeatedStart, false) => self.lose(),
                 (Symbol::RepeatedStart, true) => {
@@ -60,20 +60,20 @@ impl MasterState {
                     self.count_high()
                 }
                 (Symbol::Stop, _) => {
-                    self.stage = Stage::Ending(*cursor);
+                    self.stage = Stage::StopPending(*cursor);
                     self.pulls.sda = false;
                     self.count_high()
                 }
                 _ => self.count_high(),
             },
-            (Event::Start, Stage::Showing(Symbol::One, _)) => self.lose(),
-            (Event::Start, Stage::Opening(_) | Stage::Showing(..))
-            | (Event::Rise(_), Stage::Opening(_)) => self.count_high(),
-            (Event::Stop, Stage::Ending(cursor)) => {
+            (Event::Start, Stage::Sending(Symbol::One, _)) => self.lose(),
+            (Event::Start, Stage::StartPending(_) | Stage::Sending(..))
+            | (Event::Rise(_), Stage::StartPending(_)) => self.count_high(),
+            (Event::Stop, Stage::StopPending(cursor)) => {
                 let outcome = cursor.outcome();
                 self.tell(outcome)
             }
-            (_, Stage::Ending(_)) => self.lose(),
+            (_, Stage::StopPending(_)) => self.lose(),
             _ => Verdict::Quiet,
         }
     }
@@ -83,7 +83,7 @@ impl MasterState {
         ensures { (master_model self.new, verdict_model result) ≡ contending_step transfers (master_model self.old) (master_model self.old).arming }
     {
         if let Arming::Armed(transfer) = self.arming {
-            self.stage = Stage::Opening(Cursor::new(transfer));
+            self.stage = Stage::StartPending(Cursor::new(transfer));
             self.count = 0;
             self.pulls = Pulls {
                 scl: false,
@@ -119,7 +119,7 @@ impl MasterState {
     fn lose(&mut self) -> Verdict
         ensures { (master_model self.new, verdict_model result) ≡ losing_step transfers (master_model self.old) }
     {
-        self.stage = Stage::Waiting;
+        self.stage = Stage::Idle;
         self.count = 0;
         self.pulls = Pulls::none();
         Verdict::Lost

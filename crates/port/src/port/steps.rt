@@ -6,7 +6,7 @@ ghost use Rattle.port.specs.declared.port.Mode.TheVariants.{Addressing, Writing,
 use super::{Mode, Port};
 use device::Device;
 use transfer::{Address, Direction};
-use wire::{Event, Partial, Pulls, Signal, digit_at, shift_in};
+use wire::{Event, ByteProgress, Pulls, Signal, bit_at, shift_in};
 
 impl Mode {
     fn pulls_sda(self) -> bool
@@ -15,14 +15,14 @@ impl Mode {
         match self {
             Mode::Out | Mode::Addressing(_) | Mode::Writing(_) => false,
             Mode::Acknowledging(_) => true,
-            Mode::Reading(byte) => byte.bits < 8 && !digit_at(byte.value, 7 - byte.bits),
+            Mode::Reading(byte) => byte.bits < 8 && !bit_at(byte.value, 7 - byte.bits),
         }
     }
 }
 
 impl<D: Device> Port<D> {
     pub fn new(address: Address, device: D) -> Port<D>
-        ensures made { port_model D.Device result ≡ new_port D.Device.behaviour address.number (D.Device.means device) }
+        ensures made { port_model D.Device result ≡ new_port D.Device.behaviour address.number (D.Device.meaning device) }
         ensures same { result.device ≡ device }
     {
         Port {
@@ -85,13 +85,13 @@ impl<D: Device> Port<D> {
         ensures { ForSomeHold (λ h. MayAnswer _ (port_model D.Device self.old) signal h × PortAsked D.Device self.old signal h self.new × (port_model D.Device self.new ≡ port_step _ (port_model D.Device self.old) signal h)) }
     {
         match (self.mode, signal.event, signal.bit) {
-            (_, Event::Start, _) => self.settle(Mode::Addressing(Partial::of(0))),
+            (_, Event::Start, _) => self.settle(Mode::Addressing(ByteProgress::of(0))),
             (_, Event::Stop, _) => self.settle(Mode::Out),
             (_, Event::SteadyLow, _) => self.hold = self.hold.saturating_sub(1),
             (Mode::Addressing(byte), Event::Fall, Some(bit)) => self.address_bit(byte, bit),
             (Mode::Writing(byte), Event::Fall, Some(bit)) => self.write_bit(byte, bit),
             (Mode::Acknowledging(Direction::Write), Event::Fall, Some(_)) => {
-                self.mode = Mode::Writing(Partial::of(0));
+                self.mode = Mode::Writing(ByteProgress::of(0));
                 self.ask_hold();
             }
             (Mode::Acknowledging(Direction::Read), Event::Fall, Some(bit)) => self.read_on(bit),
@@ -113,7 +113,7 @@ impl<D: Device> Port<D> {
     }
 
     // At the eighth bit of the address byte a port that it calls selects its device.
-    fn address_bit(&mut self, byte: Partial, bit: bool)
+    fn address_bit(&mut self, byte: ByteProgress, bit: bool)
         requires { self.old.mode ≡ Addressing byte }
         ensures asked { AskedBy D.Device self.old.device (steps_at_bit _ (port_model D.Device self.old) (Addressing byte) bit) false 0 self.new.device }
         ensures after { port_model D.Device self.new ≡ port_after_bit _ (port_model D.Device self.old) (Addressing byte) bit 0 }
@@ -135,7 +135,7 @@ impl<D: Device> Port<D> {
     }
 
     // At the eighth bit of a written byte it is put.
-    fn write_bit(&mut self, byte: Partial, bit: bool)
+    fn write_bit(&mut self, byte: ByteProgress, bit: bool)
         requires { self.old.mode ≡ Writing byte }
         ensures asked { AskedBy D.Device self.old.device (steps_at_bit _ (port_model D.Device self.old) (Writing byte) bit) false 0 self.new.device }
         ensures after { port_model D.Device self.new ≡ port_after_bit _ (port_model D.Device self.old) (Writing byte) bit 0 }
@@ -149,9 +149,9 @@ impl<D: Device> Port<D> {
         }
     }
 
-    fn read_bit(&mut self, byte: Partial, bit: bool)
+    fn read_bit(&mut self, byte: ByteProgress, bit: bool)
         requires { self.old.mode ≡ Reading byte }
-        ensures { ForSomeHold (λ h. (asks_hold_at_bit (Reading byte) bit ≡ true → D.Device.behaviour.holds (D.Device.means self.new.device) h) × AskedBy D.Device self.old.device (steps_at_bit _ (port_model D.Device self.old) (Reading byte) bit) (asks_hold_at_bit (Reading byte) bit) h self.new.device × (port_model D.Device self.new ≡ port_after_bit _ (port_model D.Device self.old) (Reading byte) bit h)) }
+        ensures { ForSomeHold (λ h. (asks_hold_at_bit (Reading byte) bit ≡ true → D.Device.behaviour.holds (D.Device.meaning self.new.device) h) × AskedBy D.Device self.old.device (steps_at_bit _ (port_model D.Device self.old) (Reading byte) bit) (asks_hold_at_bit (Reading byte) bit) h self.new.device × (port_model D.Device self.new ≡ port_after_bit _ (port_model D.Device self.old) (Reading byte) bit h)) }
     {
         if byte.bits < 8 {
             self.mode = Mode::Reading(byte.shown());
@@ -162,12 +162,12 @@ impl<D: Device> Port<D> {
 
     // At the ninth bit of a read an N puts the port out, and at an A it takes a byte and then reads hold.
     fn read_on(&mut self, nack: bool)
-        ensures { ForSomeHold (λ h. (nack ≡ false → D.Device.behaviour.holds (D.Device.means self.new.device) h) × AskedBy D.Device self.old.device (take_steps _ (port_model D.Device self.old) nack) (not nack) h self.new.device × (port_model D.Device self.new ≡ port_after_read_acknowledge _ (port_model D.Device self.old) nack (D.Device.behaviour.take (D.Device.means self.old.device)) h)) }
+        ensures { ForSomeHold (λ h. (nack ≡ false → D.Device.behaviour.holds (D.Device.meaning self.new.device) h) × AskedBy D.Device self.old.device (take_steps _ (port_model D.Device self.old) nack) (not nack) h self.new.device × (port_model D.Device self.new ≡ port_after_read_acknowledge _ (port_model D.Device self.old) nack (D.Device.behaviour.take (D.Device.meaning self.old.device)) h)) }
     {
         if nack {
             self.mode = Mode::Out;
         } else {
-            self.mode = Mode::Reading(Partial::of(self.device.take()));
+            self.mode = Mode::Reading(ByteProgress::of(self.device.take()));
             self.ask_hold();
         }
     }

@@ -11,10 +11,10 @@ returns g c =
     let ds = g.P.Ports.devices in
     record {
       made = search rules;
-      law = every_use_lawful hs ds (g.M.Masters.stand c.args.masters) (g.P.Ports.stand c.args.ports) (g.met.M.Masters.clocked c.args.masters);
+      law = every_use_lawful hs ds (g.M.Masters.model c.args.masters) (g.P.Ports.model c.args.ports) (g.met.M.Masters.clocks_in_range c.args.masters);
       strings = string_laws ds ds;
       bytes = byte_laws ds;
       hosts = search rules;
       devices = search rules;
-      asked = every_asked hs ds (g.M.Masters.stand c.args.masters) (g.P.Ports.stand c.args.ports) (g.met.M.Masters.clocked c.args.masters);
+      asked = every_asked hs ds (g.M.Masters.model c.args.masters) (g.P.Ports.model c.args.ports) (g.met.M.Masters.clocks_in_range c.args.masters);
     }

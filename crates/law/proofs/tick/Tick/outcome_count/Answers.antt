@@ -3,7 +3,7 @@ use Rattle.std.proofs.lemmas.Iterator.{YieldsList-from_map, YieldsList-from_slic
 use Rattle.std.proofs.lemmas.Iterator.Consumers.{fits_by_from_yields_list, sum_by_from_yields_List}
 use Rattle.std.proofs.lemmas.List.Sums.{count_by-le-length}
 use Rattle.law.specs.Run.{is_told, told_count}
-use Rattle.law.proofs.tick.Tick.outcomes.Goals as goal
+use Rattle.law.proofs.tick.Tick.outcome_count.Goals as goal
 
 pub sum-requires-clause-fits : goal.sum-requires-clause-fits
 sum-requires-clause-fits c =
