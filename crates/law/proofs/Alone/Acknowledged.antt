@@ -17,7 +17,7 @@ use Rattle.law.specs.TransferResult.{AddressedDevice, DeviceInLeg, device_after_
 use Rattle.law.specs.Facts.{devices_after_puts, write_leg}
 use Rattle.law.specs.Legal.{IsLegalBody, IsLegalLeg, IsLegalSecond, IsLegal}
 use Rattle.law.specs.Letter.{Letter, zero as low, stop, restart, one, rank, bit_letter}
-use Rattle.law.proofs.Sides.{Side, leg_end as ends_with, heard, after, string, last}
+use Rattle.law.proofs.Sides.{Side, ends as ends_with, heard, after, string, last}
 use Rattle.law.proofs.Alone.ByteLaws.{took, ninth, later, nine}
 use Rattle.law.proofs.Alone.CarriedAlone.{carried_alone}
 use Rattle.law.proofs.Alone.Legs.{calls, notes, closing, address_plays, written_plays, leg_plays}
@@ -178,7 +178,7 @@ module _ (ds : List Behaviour) where
       let t : any_in ds w ≡ true = ninth ds x r s (any_in ds w) q in let u = bank_map (writing_at 0 0) ds w in
       (t, after_bits x 0 r s (any_in ds w) (bank_map (writing_at 0 0) ds e) u u t (byte_put x e (o 0)) refl)
   put_played l (x ∷ xs) n e (suc y) o h q = let w = put_to_all ds x e in let r = write_result ds l xs (suc n) w in let s = leg_end ds (Refused (record { leg = l; byte = n })) w in
-      let p : get_or (took ds x r s (any_in ds w)).levels (suc (suc (suc (suc (suc (suc (suc (suc (suc (9 * y + 8)))))))))) true ≡ false = rw (nine y) cursor_at q in
+      let p : get_or (took ds x r s (any_in ds w)).levels (suc (suc (suc (suc (suc (suc (suc (suc (suc (9 * y + 8)))))))))) true ≡ false = rw (nine y) at q in
       let z = put_played l xs (suc n) w y (λ j. o (suc j)) (omega arith) (later ds x r s (any_in ds w) (9 * y + 8) refl p) in (
         z.0,
         ap (λ m. plays (bank_map (writing_at 0 0) ds e) (take (suc m) (took ds x r s (any_in ds w)).levels)) (nine y) ∙
@@ -204,7 +204,7 @@ module _ (ds : List Behaviour) where
       GoesOn b (starts d) (take (suc (9 * m + 8)) (leg_result ds l (record { address = a; body = b }) d).levels) (in_leg_after (record { address = a; body = b }) m d)
   leg_played l a (writes xs) d zero n o h q = call_played l a (writes xs) d n q
   leg_played l a (writes xs) d (suc y) n o h q = let e = called_for ds a Write d in let r = write_result ds l xs 0 e in let s = leg_end ds (NoAnswer (record { leg = l })) e in
-      let p : get_or (took ds (a * 2) r s (any_in ds e)).levels (suc (suc (suc (suc (suc (suc (suc (suc (suc (9 * y + 8)))))))))) true ≡ false = rw (nine y) cursor_at q in
+      let p : get_or (took ds (a * 2) r s (any_in ds e)).levels (suc (suc (suc (suc (suc (suc (suc (suc (suc (9 * y + 8)))))))))) true ≡ false = rw (nine y) at q in
       let z = put_played l xs 0 e y o.0 (omega arith) (later ds (a * 2) r s (any_in ds e) (9 * y + 8) refl p) in (
         z.0,
         ap (λ m. plays (starts d) (take (suc m) (took ds (a * 2) r s (any_in ds e)).levels)) (nine y) ∙
@@ -224,15 +224,15 @@ module _ (ds : List Behaviour) where
     pub then : up_to (suc j) c s ≡ ready ds g.body (in_leg_after g m before)
 
   -- some slots of a leg
-  leg_played : (g : LegModel) (l : ℕ) (o : Option LegModel) (ys : List ℕ) (d : Bank AddressedDevice ds) (m : ℕ) → IsLegalLeg g → m ≤ length (leg_result ds l g d).levels →
+  slots_of_leg : (g : LegModel) (l : ℕ) (o : Option LegModel) (ys : List ℕ) (d : Bank AddressedDevice ds) (m : ℕ) → IsLegalLeg g → m ≤ length (leg_result ds l g d).levels →
       up_to m (cursor_at (in_leg g o 0 0) (notes l ys 0 Done)) (starts d) ≡ plays (starts d) (take m (leg_result ds l g d).levels)
-  leg_played g l o ys d m h n = last_in transfers E m (leg_result ds l g d).levels (λ c u. Unit {0}) (cursor_at (in_leg g o 0 0) (notes l ys 0 Done)) (starts d) n (leg_plays ds o (λ c u. Unit {0}) g l ys d h (λ u q. tt))
+  slots_of_leg g l o ys d m h n = last_in transfers E m (leg_result ds l g d).levels (λ c u. Unit {0}) (cursor_at (in_leg g o 0 0) (notes l ys 0 Done)) (starts d) n (leg_plays ds o (λ c u. Unit {0}) g l ys d h (λ u q. tt))
 
   leg_answered : (l : ℕ) (g : LegModel) (o : Option LegModel) (ys : List ℕ) (d : Bank AddressedDevice ds) (m : ℕ) → IsLegalLeg g → m ≤ body_writes g.body →
       get_or (leg_result ds l g d).levels (9 * m + 8) true ≡ false → HasAnswered (9 * m + 8) (cursor_at (in_leg g o 0 0) (notes l ys 0 Done)) (starts d) g m
   leg_answered l g o ys d m f h q = let n = low_there (leg_result ds l g d).levels (9 * m + 8) q in
       let z = leg_played l g.address g.body d m (omega (arith, f.most)) f.within h q in
-      record { before = d; some = z.0; then = leg_played g l o ys d (suc (9 * m + 8)) f (omega arith) ∙ z.1 }
+      record { before = d; some = z.0; then = slots_of_leg g l o ys d (suc (9 * m + 8)) f (omega arith) ∙ z.1 }
 
   -- leg 0
   first_answered : (g : LegModel) (o : Option LegModel) (d : Bank AddressedDevice ds) (m : ℕ) → IsLegalLeg g → m ≤ body_writes g.body → let r = leg_result ds 0 g d in

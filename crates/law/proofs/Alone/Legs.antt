@@ -13,7 +13,7 @@ use Rattle.device.specs.Device.{Behaviour}
 use Rattle.master.specs.declared.symbol.Symbol.TheVariants.{Listen}
 use Rattle.law.specs.Bank.{Bank, bank_map, bank_list}
 use Rattle.law.specs.TransferResult.{AddressedDevice, DeviceInLeg, device_after_take, byte_given_by, joint_byte, call_byte, byte_levels, LegResult, leg_end, with_byte, any_in, write_result, read_result, body_result, leg_result}
-use Rattle.master.specs.Cursor.{in_leg, at_end, Notes, CursorModel, cursor_at, byte_of_leg, master_sends, symbol_in_leg, failure_kind, after_leg, with_byte, cursor_next}
+use Rattle.master.specs.Cursor.{in_leg, at_end, Notes, CursorModel, cursor_at, byte_of_leg, master_sends, symbol_in_leg, failure_kind, after_leg, after_byte, cursor_next}
 use Rattle.wire.specs.ByteProgress.{bit_at, shift_in}
 use Rattle.port.specs.Port.{PortModel}
 use Rattle.master.specs.Script.{transfers}
@@ -143,7 +143,7 @@ module _ (ds : List Behaviour) (o : Option LegModel) (K : CursorModel → Bank P
 
   write_bytes : (a l : ℕ) (xs ys zs : List ℕ) (y : ℕ) (d : Bank DeviceInLeg ds) → drop y xs ≡ zs → IsOctets zs → Ends l ys (write_result ds l zs y d) →
       Goes (after_byte (leg a (writes xs)) o y (notes l ys 0 Done)) (bank_map (writing_at 0 0) ds d) (write_result ds l zs y d).levels
-  write_bytes a l xs ys [] y d e f k = rw (le-ltb y (length xs) (over xs y e)) (rw append-nil cursor_at (k (bank_map (writing_at 0 0) ds d) (rests_writing ds d)))
+  write_bytes a l xs ys [] y d e f k = rw (le-ltb y (length xs) (over xs y e)) (rw append-nil at (k (bank_map (writing_at 0 0) ds d) (rests_writing ds d)))
   write_bytes a l xs ys (x ∷ zs) y d e f k = let r = here xs y x zs e in
       rw (lt-ltb y (length xs) r.inside) (go (any_in ds w) refl k (write_bytes a l xs ys zs (suc y) w r.rest (λ j. f (suc j))))
     where
@@ -168,7 +168,7 @@ module _ (ds : List Behaviour) (o : Option LegModel) (K : CursorModel → Bank P
       go true i k ih = written_plays a xs y x m d (false ∷ (write_result ds l zs (suc y) w).levels) (here xs y x zs e).found (f 0)
           (heard_yes (leg a (writes xs)) (suc y) m Write w u (write_result ds l zs (suc y) w).levels refl i (write_on ds w false) (ih k))
       go false i k ih = written_plays a xs y x m d (true ∷ []) (here xs y x zs e).found (f 0)
-          (heard_no (leg a (writes xs)) (suc y) l ys Write w u refl i (write_on ds w true) (rw append-nil cursor_at (k u (rests_writing ds w))))
+          (heard_no (leg a (writes xs)) (suc y) l ys Write w u refl i (write_on ds w true) (rw append-nil at (k u (rests_writing ds w))))
 
   -- byte y of a read of c, with n to come after it
   read_bytes : (a c l : ℕ) (ys : List ℕ) (n y : ℕ) (d : Bank DeviceInLeg ds) → y + suc n ≡ c → Ends l ys (read_result ds (suc n) d) →
@@ -230,4 +230,4 @@ module _ (ds : List Behaviour) (o : Option LegModel) (K : CursorModel → Bank P
           (heard_yes g 0 m r e (ready ds g.body e) rest.levels refl i (gets_ready ds g.body e) (body_plays g.address g.body l ys e f.within k))
       go false i k = address_plays g x m d (true ∷ []) says
           (heard_no g 0 l ys r e ((ports_side ds).bit (bank_map (acknowledging_at r) ds e) true) refl i refl
-          (rw append-nil cursor_at (k ((ports_side ds).bit (bank_map (acknowledging_at r) ds e) true) (gets_none g.body e))))
+          (rw append-nil at (k ((ports_side ds).bit (bank_map (acknowledging_at r) ds e) true) (gets_none g.body e))))

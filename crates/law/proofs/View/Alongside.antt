@@ -29,7 +29,7 @@ use Rattle.law.proofs.Alone.Reached.{noted_by}
 use Rattle.law.proofs.Alone.SlotsLeft.{slots_left}
 use Rattle.law.proofs.Law.Machine.{Bus}
 use Rattle.law.proofs.Law.Stands.{Stands, idle, claims, begun, low, rose, high}
-use Rattle.law.proofs.Law.Uses.{Tasks, Monitor as LawWatch}
+use Rattle.law.proofs.Law.Uses.{Tasks, Watch as LawWatch}
 use Rattle.law.proofs.View.Beginning.{StandsAt, every_use_lawful, every_use_stands}
 use Rattle.law.proofs.View.Booked.{contenders, turn_if}
 use Rattle.law.proofs.View.Morphisms.{pulls_to, port_places, device_places}

@@ -19,7 +19,7 @@ use Rattle.master.specs.Script.{transfers}
 use Rattle.law.proofs.Alone.PortsSide.{ports_side, idle_ports}
 use Rattle.law.proofs.Alone.Sealed.{legal_transfer}
 use Rattle.law.proofs.Alone.SlotsLeft.{slots_left}
-use Rattle.law.proofs.Law.Uses.{any, answer, answer_if, armed_if, arm_book, nobody, disarm, disarm_one, Book as LawBook, book, feed_arm, feed, stop_tells, book_told as law_tells}
+use Rattle.law.proofs.Law.Uses.{any, answer, answer_if, armed_if, arm_book, nobody, disarm, disarm_one, Book as LawBook, book, feed_arm, feed, stop_tells, book_tells as law_tells}
 use Rattle.law.proofs.View.Carries.{LegalIf, AllLegal, carry_all, lead, told_are, devices_are}
 use Rattle.law.proofs.View.Hosting.{Meanings, wants_of, hears_all, all_hosts}
 

@@ -15,7 +15,7 @@ use Rattle.master.specs.MasterState.{VerdictModel}
 use Rattle.law.specs.Run.{some_count}
 use Rattle.master.specs.Script.{transfers}
 use Rattle.law.specs.Letter.{Letter, stop, restart, rank, bit_letter}
-use Rattle.law.proofs.Law.Uses.{count, Monitor as LawWatch, watch, spell, fallen, restarted, falses, turned, marks_too, telling, tellings}
+use Rattle.law.proofs.Law.Uses.{count, Watch as LawWatch, watch, spell, fallen, restarted, falses, turned, marks_too, telling, tellings}
 use Rattle.law.proofs.Law.Machine.{verdicts}
 use Rattle.law.proofs.View.Booked.{tasks, contenders, turn_if, Kept, any_armed, Sound}
 use Rattle.law.proofs.View.Seen.{masters_of}
