@@ -14,8 +14,8 @@ returns g c =
     let u = bus_model c.args.self.now in
     let tick = c.tick.ensures.answered in
     record {
-      few = c.outcomes.ensures.few;
-      all = c.outcomes.ensures.all ∙ ap (λ x. told_count x.0.marks) tick.2
+      few = c.outcome_count.ensures.few;
+      all = c.outcome_count.ensures.all ∙ ap (λ x. told_count x.0.marks) tick.2
           ∙ tolds_are_all hs (signal u.wire (levels_at hs ds u)) u.masters most_masters c.args.self.now.few_masters;
       after = (c.tick.result, tick);
     }
