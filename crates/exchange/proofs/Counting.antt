@@ -15,7 +15,8 @@ use Rattle.master.specs.MasterState.{VerdictModel, quiet, lost, told, master_ste
 use Rattle.master.specs.Script.{transfers}
 use Rattle.exchange.specs.Bus.{TickAsked, GoesOnAsked, RunAsked}
 use Rattle.law.specs.Limits.{most_ticks}
-use Rattle.law.specs.Run.{some_count, is_told, told_count, Running, run_start, run_after_tick, run_after_ticks, RunTicksAnswered, RunAnswered, load, run_at}
+use Rattle.law.specs.Run.{some_count, told_count, Running, run_start, run_after_tick, run_after_ticks, RunTicksAnswered, RunAnswered, load, run_at}
+use Rattle.master.specs.Mark.{is_told}
 
 told_marks : (v : VerdictModel transfers) (ms : List Mark) (os : List (Option OutcomeModel)) → told_count ms ≡ some_count os → told_count (mark_of v ∷ ms) ≡ some_count (told_outcome v ∷ os)
 told_marks quiet ms os e = e

@@ -4,10 +4,9 @@ ghost use Rattle.device.specs.Device.{Behaviour};
 ghost use Rattle.host.specs.Host.{HostBehaviour};
 ghost use Rattle.transfer.specs.Refusal.{answer};
 ghost use Rattle.law.specs.Bank.{any_true, Bank, bank_map, bank_list};
-ghost use Rattle.law.specs.Bus.{all_pulls, arm_master_at, marks_over, HoldAnswers, AllMayAnswer, ports_step};
+ghost use Rattle.law.specs.Bus.{all_pulls, arm_master_at, marks_over, HoldAnswers, AllMayAnswer, ports_step, ClocksInRange};
 ghost use Rattle.master.specs.Master.{HostedMaster, SameHost, hosted_pulls, hosted_is_armed, hosted_new, hosted_step, hosted_mark, hosted_master};
 ghost use Rattle.port.specs.Port.{PortAsked, SameDevice, reset_port, PortModel, port_model, port_pulls};
-ghost use Rattle.law.specs.Law.{ClocksInRange};
 ghost use Rattle.wire.specs.declared.wire.Signal.{Signal};
 ghost use Rattle.std.proofs.Common.{rules};
 

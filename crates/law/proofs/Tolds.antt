@@ -3,7 +3,8 @@ use Rattle.std.proofs.Common.{◌≡◌, ℕ, suc, ◌+◌, ◌<◌, Bool, true,
 use Rattle.std.proofs.lemmas.List.Sums.{sum_by-cons, count_by_more_yes, count_by_more_no}
 use Rattle.master.specs.declared.mark.Mark.{Mark}
 use Rattle.master.specs.declared.mark.Mark.TheVariants.{Quiet, Told, Lost}
-use Rattle.law.specs.Run.{is_told, told_count}
+use Rattle.law.specs.Run.{told_count}
+use Rattle.master.specs.Mark.{is_told}
 
 first_of : (m : Mark) (ms : List Mark) → told_count (m ∷ ms) ≡ told_count (m ∷ []) + told_count ms
 first_of m ms = omega (arith, sum_by-cons (λ x. cond (is_told x) 1 0) m ms, sum_by-cons (λ x. cond (is_told x) 1 0) m [])

@@ -19,7 +19,7 @@ use Rattle.law.specs.TransferResult.{AddressedDevice, joint_byte, transfer_resul
 use Rattle.law.specs.Facts.{read_leg}
 use Rattle.law.specs.Limits.{bits_of_byte, letters_of_byte}
 use Rattle.law.specs.Letter.{Letter}
-use Rattle.law.specs.Law.{Call, Use, event_at, monitor_after, steps_at, no_steps, steps_then, new_use, use_after}
+use Rattle.law.specs.Use.{Call, Use, event_at, monitor_after, steps_at, no_steps, steps_then, new_use, use_after}
 
 -- a device's meaning, and the steps that were asked of it
 pub record StepsNoted (b : Behaviour) : Type 0 where

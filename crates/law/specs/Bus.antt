@@ -1,5 +1,5 @@
 -- A bus, and what an arm and a tick make of it.
-use Rattle.std.specs.Prelude.{◌≡◌, ℕ, ◌<◌, Bool, not, ◌&&◌, List, [], ◌∷◌, replicate, Err, Option, Result}
+use Rattle.std.specs.Prelude.{◌≡◌, ℕ, ◌<◌, ◌≤◌, Bool, not, ◌&&◌, List, [], ◌∷◌, replicate, Err, Option, Result}
 use Rattle.std.proofs.Common.{zero-lt-suc}
 use Rattle.device.specs.Device.{Behaviour}
 use Rattle.host.specs.Host.{HostBehaviour}
@@ -11,8 +11,9 @@ use Rattle.wire.specs.declared.levels.Levels.{Levels}
 use Rattle.wire.specs.declared.pulls.Pulls.{Pulls}
 use Rattle.wire.specs.declared.wire.Signal.{Signal}
 use Rattle.wire.specs.declared.wire.Wire.{Wire}
-use Rattle.law.specs.Bank.{Bank, bank_map, bank_list, bank_update, any_true}
+use Rattle.law.specs.Bank.{Bank, bank_map, bank_list, BankAll, bank_update, any_true}
 use Rattle.law.specs.Limits.{most_masters}
+use Rattle.transfer.specs.Limits.{most_count}
 use Rattle.master.specs.Master.{HostedMaster, hosted_step, hosted_mark, hosted_told, hosted_pulls, hosted_is_armed, hosted_new, hosted_arm}
 use Rattle.port.specs.Port.{MayAnswer, PortModel, port_pulls, port_step, reset_port}
 use Rattle.wire.specs.Pulls.{no_pulls, pulls_or, levels_of}
@@ -58,6 +59,10 @@ abbrev pub marks_over : List Mark → List Mark → List Mark
 marks_over [] ys = ys
 marks_over (x ∷ xs) [] = []
 marks_over (x ∷ xs) (y ∷ ys) = x ∷ marks_over xs ys
+
+-- every clock count is 1 to most_count
+abbrev pub ClocksInRange : (hs : List HostBehaviour) → Bank HostedMaster hs → Type 0
+ClocksInRange hs ms = BankAll (λ h x. (1 ≤ x.master.low) × (x.master.low ≤ most_count) × (1 ≤ x.master.high) × (x.master.high ≤ most_count)) hs ms
 
 module _ (hs : List HostBehaviour) (ds : List Behaviour) where
   pub record BusModel : Type 0 where

@@ -8,5 +8,7 @@ pub mod Facts
 pub mod Book
 pub mod WorkedExamples
 pub mod Run
+pub mod Monitor
+pub mod Use
 pub mod Law
 pub mod AskedLaw

@@ -4,17 +4,12 @@ use Rattle.std.specs.List.{count_by}
 use Rattle.device.specs.Device.{Behaviour}
 use Rattle.host.specs.Host.{HostBehaviour}
 use Rattle.master.specs.declared.mark.Mark.{Mark}
-use Rattle.master.specs.declared.mark.Mark.TheVariants.{Quiet, Told, Lost}
+use Rattle.master.specs.Mark.{is_told}
 use Rattle.law.specs.Bus.{BusModel, HoldAnswers, Answered, tick_at, told_at, is_at_rest}
 use Rattle.law.specs.Limits.{most_ticks}
 
 abbrev pub some_count : {A : Type 0} → List (Option A) → ℕ
 some_count os = count_by is_some os
-
-abbrev pub is_told : Mark → Bool
-is_told Quiet = false
-is_told Told = true
-is_told Lost = false
 
 -- how many were told, by the marks of a tick
 abbrev pub told_count : List Mark → ℕ

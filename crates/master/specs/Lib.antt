@@ -5,3 +5,4 @@ pub mod Cursor
 pub mod Script
 pub mod MasterState
 pub mod Master
+pub mod Mark

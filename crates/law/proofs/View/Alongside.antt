@@ -16,9 +16,11 @@ use Rattle.wire.specs.Wire.{signal, wire_after, busy_after}
 use Rattle.law.specs.AskedLaw.{all_noting_steps, all_steps}
 use Rattle.law.specs.Bank.{Bank, bank_map, bank_list, any_true}
 use Rattle.law.specs.Book.{Entry, entry_is_armed, entry_contending, entries_after_turn, arm_entry_at, Turn, closed, opened, is_open, Book, book_after_opening, told_at_stop, book_after_stop, book_told, book_after}
-use Rattle.law.specs.Bus.{all_pulls, HoldAnswers, ports_step, BusModel, arm_at, levels_at, after_levels, tick_at, told_at, is_at_rest}
+use Rattle.law.specs.Bus.{all_pulls, HoldAnswers, ports_step, BusModel, arm_at, levels_at, after_levels, tick_at, told_at, is_at_rest, ClocksInRange}
 use Rattle.law.specs.TransferResult.{AddressedDevice}
-use Rattle.law.specs.Law.{Monitor, monitor_with, monitor_after_event, monitor_after_marks, lists_appended, ClocksInRange, Call, arms, ticks, runs, Use, event_at, marks_of, steps_at, no_steps, steps_then, use_after_tick, use_after_ticks, use_after_call, use_after, addressed_device, new_use, Law}
+use Rattle.law.specs.Monitor.{Monitor, new_monitor, monitor_after_event, monitor_after_marks}
+use Rattle.law.specs.Use.{lists_appended, Call, arms, ticks, runs, Use, event_at, marks_of, steps_at, no_steps, steps_then, use_after_tick, use_after_ticks, use_after_call, use_after, addressed_device, new_use}
+use Rattle.law.specs.Law.{Law}
 use Rattle.law.proofs.Sides.{Side}
 use Rattle.law.proofs.Alone.Alike.{Alike}
 use Rattle.law.proofs.Alone.Idle.{Idle}
@@ -76,7 +78,7 @@ module _ (hs : List HostBehaviour) where
   turn_after es v SteadyLow = v
 
   abbrev watched_by : Monitor → Turn → Turn → Bank Entry hs → Event → Monitor
-  watched_by w v u es e = cond (is_open v) (monitor_after_event w e) (cond (is_open u) (monitor_with 0 false (bank_list (λ h x. false) hs es) None []) (monitor_after_event w e))
+  watched_by w v u es e = cond (is_open v) (monitor_after_event w e) (cond (is_open u) (new_monitor (bank_list (λ h x. false) hs es)) (monitor_after_event w e))
 
   not_stop : (es : Bank Entry hs) (v : Turn) (e : Event) → turn_after es v e ≡ opened → e ≡ Stop → ⊥
   not_stop es v e h k = let z : opened ≡ closed = sym h ∙ ap (turn_after es v) k in cc
@@ -358,16 +360,16 @@ module _ (hs : List HostBehaviour) (ds : List Behaviour) where
       pub noting_calls : List (Call hs es)
       pub alongside : Alongside (use_after hs es first_noting noting_calls) x
 
-    first_devices : (gs : List Behaviour) (qs : Bank PortModel gs) → bare_devices gs (bank_map (addressed_device hs (all_noting_steps gs)) (all_noting_steps gs) (with_notes gs qs)) ≡ bank_map (addressed_device hs gs) gs qs
+    first_devices : (gs : List Behaviour) (qs : Bank PortModel gs) → bare_devices gs (bank_map addressed_device (all_noting_steps gs) (with_notes gs qs)) ≡ bank_map addressed_device gs qs
     first_devices [] qs = refl
     first_devices (b ∷ gs) qs = ap (λ r. (record { address = qs.0.address; meaning = qs.0.meaning }, r)) (first_devices gs qs.1)
 
-    first_places : (gs : List Behaviour) (qs : Bank PortModel gs) → port_places gs (bank_map reset_port gs qs) ≡ device_places gs (bank_map (addressed_device hs gs) gs qs)
+    first_places : (gs : List Behaviour) (qs : Bank PortModel gs) → port_places gs (bank_map reset_port gs qs) ≡ device_places gs (bank_map addressed_device gs qs)
     first_places [] qs = refl
     first_places (b ∷ gs) qs = ap (λ l. qs.0.address ∷ l) (first_places gs qs.1)
 
     first_noted : (gs : List Behaviour) (qs : Bank PortModel gs) → noted_by gs (bank_map reset_port (all_noting_steps gs) (with_notes gs qs)) ≡
-        lists_appended (all_steps gs (bank_map (addressed_device hs (all_noting_steps gs)) (all_noting_steps gs) (with_notes gs qs))) (bank_list (λ b p. []) gs (bank_map reset_port gs qs))
+        lists_appended (all_steps gs (bank_map addressed_device (all_noting_steps gs) (with_notes gs qs))) (bank_list (λ b p. []) gs (bank_map reset_port gs qs))
     first_noted [] qs = refl
     first_noted (b ∷ gs) qs = ap (λ l. [] ∷ l) (first_noted gs qs.1)
 

@@ -17,12 +17,15 @@ use Rattle.wire.specs.Wire.{signal, busy_after}
 use Rattle.law.specs.AskedLaw.{all_noting_steps, all_nothing_noted, all_steps, steps_alone, leg_of, acknowledge_at, Acknowledged, AtSomePort, handed_over, called_before, read_before, all_at, JoinedFrom, Contends, StillIn, HearsA, AskedLaw, EveryAsked}
 use Rattle.law.specs.Bank.{Bank, bank_map, bank_list}
 use Rattle.law.specs.Book.{opened, is_open, book_told, book_after}
-use Rattle.law.specs.Bus.{no_holds, levels_at, told_at}
+use Rattle.law.specs.Bus.{no_holds, levels_at, told_at, ClocksInRange}
 use Rattle.law.specs.TransferResult.{AddressedDevice, transfer_result}
 use Rattle.law.specs.Facts.{read_leg}
 use Rattle.law.specs.Legal.{IsLegal}
 use Rattle.law.specs.Letter.{Letter, zero as low, rank}
-use Rattle.law.specs.Law.{ClocksInRange, ticks, Use, monitor_with, lists_appended, monitor_after_event, is_lost, lost_after, event_at, marks_of, monitor_after, steps_then, use_after_tick, use_after, new_use, Law}
+use Rattle.law.specs.Monitor.{new_monitor, monitor_after_event, marked_after}
+use Rattle.master.specs.Mark.{is_lost}
+use Rattle.law.specs.Use.{ticks, Use, lists_appended, event_at, marks_of, monitor_after, steps_then, use_after_tick, use_after, new_use}
+use Rattle.law.specs.Law.{Law}
 use Rattle.law.proofs.Sides.{string, last}
 use Rattle.law.proofs.Alone.Alike.{Alike}
 use Rattle.law.proofs.Alone.HandedOver.{joined_alone, joined_as, reported_alone}
@@ -43,7 +46,7 @@ use Rattle.law.proofs.View.Used.{used_as}
 use Rattle.law.proofs.View.Winners.{tells_own, tells_at_stop, devices_won}
 
 -- who is not marked before a tick and not in it is not marked after it
-unmarked_after : (vs : List Bool) (ks : List Mark) (i : ℕ) → get_or vs i false ≡ false → (get_or ks i Quiet ≡ Lost → ⊥) → get_or (lost_after vs ks) i false ≡ false
+unmarked_after : (vs : List Bool) (ks : List Mark) (i : ℕ) → get_or vs i false ≡ false → (get_or ks i Quiet ≡ Lost → ⊥) → get_or (marked_after vs ks) i false ≡ false
 unmarked_after [] ks i e n = refl
 unmarked_after (v ∷ vs) [] i e n = e
 unmarked_after (v ∷ vs) (k ∷ ks) zero e n = ap (λ w. w || is_lost k) e ∙ not_lost k n where
@@ -154,7 +157,7 @@ module _ (hs : List HostBehaviour) (ds : List Behaviour) where
 
       saw : (F : List Behaviour) (z : Use hs F) → z.book.turn ≡ opened → event_at hs F z.bus ≡ Fall → monitor_after hs F z.watch z.book (event_at hs F z.bus) ≡ monitor_after_event z.watch Fall
       saw F z o e = ap (monitor_after hs F z.watch z.book) e
-          ∙ ap (λ v. cond (is_open v) (monitor_after_event z.watch Fall) (cond (is_open (book_after hs F z.book Fall).turn) (monitor_with 0 false (bank_list (λ h q. false) hs z.book.entries) None []) (monitor_after_event z.watch Fall))) o
+          ∙ ap (λ v. cond (is_open v) (monitor_after_event z.watch Fall) (cond (is_open (book_after hs F z.book Fall).turn) (new_monitor (bank_list (λ h q. false) hs z.book.entries)) (monitor_after_event z.watch Fall))) o
 
       saw_too : monitor_after hs es y.watch y.book (event_at hs es y.bus) ≡ monitor_after_event x.watch Fall
       saw_too = saw es y (s.turn ∙ open_turn) falls_too ∙ ap (λ w. monitor_after_event w Fall) s.watch
@@ -164,8 +167,8 @@ module _ (hs : List HostBehaviour) (ds : List Behaviour) where
       nobody_lost i e = let z : false ≡ true = sym (ap (λ w. w.risen) (saw ds x open_turn falls)) ∙ (lx.tick.loses i e).risen in cc
 
       still_in : (i : ℕ) (t : TransferModel) → StillIn hs ds x i t → LawStillIn transfers then.watch.marked (contenders hs then.book.entries) i
-      still_in i t (c, inl m) = inl (ap (λ w. get_or (lost_after w.marked (marks_of hs es y.bus)) i false) saw_too
-          ∙ (ap (λ ks. get_or (lost_after x.watch.marked ks) i false) (same_marks hs ds y x s) ∙ unmarked_after x.watch.marked (marks_of hs ds x.bus) i m (nobody_lost i)))
+      still_in i t (c, inl m) = inl (ap (λ w. get_or (marked_after w.marked (marks_of hs es y.bus)) i false) saw_too
+          ∙ (ap (λ ks. get_or (marked_after x.watch.marked ks) i false) (same_marks hs ds y x s) ∙ unmarked_after x.watch.marked (marks_of hs ds x.bus) i m (nobody_lost i)))
       still_in i t (c, inr l) = inr (λ j u e. l j u (ap (λ b. get_or (contenders hs b) j None) (sym s.entries) ∙ (ap (λ b. get_or (contenders hs b.entries) j None) (sym same_book) ∙ e)))
 
       module _ (i : ℕ) (t : TransferModel) (in_turn : StillIn hs ds x i t) (k : ℕ) (g : LegModel) (n : ℕ) (hears : HearsA hs ds x t k g n) where

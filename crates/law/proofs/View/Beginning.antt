@@ -2,10 +2,12 @@
 use Rattle.std.proofs.Common.{◌≡◌, ℕ, max, false, List, [], ◌∷◌, None, sym, refl, ap, ◌∙◌, subst, arith}
 use Rattle.device.specs.Device.{Behaviour}
 use Rattle.host.specs.Host.{HostBehaviour}
+use Rattle.law.specs.Bus.{ClocksInRange}
 use Rattle.law.specs.Bank.{Bank, bank_map, bank_list}
 use Rattle.master.specs.Master.{HostedMaster, hosted_new}
 use Rattle.port.specs.Port.{reset_port, PortModel}
-use Rattle.law.specs.Law.{ClocksInRange, Call, Use, use_after, new_entry, addressed_device, new_use, EveryUse}
+use Rattle.law.specs.Use.{Call, Use, use_after, new_entry, addressed_device, new_use}
+use Rattle.law.specs.Law.{EveryUse}
 use Rattle.master.specs.Script.{transfers}
 use Rattle.law.proofs.Alone.Alike.{Alike}
 use Rattle.law.proofs.Alone.Idle.{Idle}
@@ -43,19 +45,19 @@ no_holds [] ps = refl
 no_holds (b ∷ ds) ps = ap (λ n. max 0 n) (no_holds ds ps.1)
 
 module _ (hs : List HostBehaviour) (ds : List Behaviour) where
-  new_ports : (es : List Behaviour) (ps : Bank PortModel es) → bank_map unheld es (bank_map reset_port es ps) ≡ idle_ports es (bank_map (addressed_device hs ds) es ps)
+  new_ports : (es : List Behaviour) (ps : Bank PortModel es) → bank_map unheld es (bank_map reset_port es ps) ≡ idle_ports es (bank_map addressed_device es ps)
   new_ports [] ps = refl
   new_ports (b ∷ es) ps = grind (arith, new_ports es)
 
-  new_meanings : (gs : List HostBehaviour) (ms : Bank HostedMaster gs) → meanings gs (bank_map (new_entry hs ds) gs ms) ≡ hosts_of gs ms
+  new_meanings : (gs : List HostBehaviour) (ms : Bank HostedMaster gs) → meanings gs (bank_map (new_entry) gs ms) ≡ hosts_of gs ms
   new_meanings [] ms = refl
   new_meanings (h ∷ gs) ms = grind (arith, new_meanings gs)
 
-  new_tasks : (gs : List HostBehaviour) (ms : Bank HostedMaster gs) → tasks gs (bank_map (new_entry hs ds) gs ms) ≡ armeds transfers (fresh_masters transfers (bank_list clock_of gs ms))
+  new_tasks : (gs : List HostBehaviour) (ms : Bank HostedMaster gs) → tasks gs (bank_map (new_entry) gs ms) ≡ armeds transfers (fresh_masters transfers (bank_list clock_of gs ms))
   new_tasks [] ms = refl
   new_tasks (h ∷ gs) ms = ap (λ l. None ∷ l) (new_tasks gs ms.1)
 
-  new_kept : (gs : List HostBehaviour) (ms : Bank HostedMaster gs) → Kept gs (bank_map (new_entry hs ds) gs ms)
+  new_kept : (gs : List HostBehaviour) (ms : Bank HostedMaster gs) → Kept gs (bank_map (new_entry) gs ms)
   new_kept [] ms = tt
   new_kept (h ∷ gs) ms = (tt, new_kept gs ms.1)
 
@@ -66,7 +68,7 @@ module _ (hs : List HostBehaviour) (ds : List Behaviour) where
   }
 
   abbrev rest : Bank PortModel ds → Bank PortModel ds
-  rest ps = idle_ports ds (bank_map (addressed_device hs ds) ds ps)
+  rest ps = idle_ports ds (bank_map addressed_device ds ps)
 
   begins_as : (ms : Bank HostedMaster hs) (ps : Bank PortModel ds) → used_as hs ds (new_use hs ds ms ps) ≡ law_made transfers (ports_side ds) (all_hosts hs) (bank_list clock_of hs ms) (hosts_of hs ms) (rest ps)
   begins_as ms ps = λ i.
@@ -81,7 +83,7 @@ module _ (hs : List HostBehaviour) (ds : List Behaviour) where
       let x = new_use hs ds ms ps in
       let w = reached hs ds x cs (begins_good ms ps) in
       let all = every_use transfers (ports_side ds) slots_left (all_hosts hs) Alike IsLegal (Idle ds) laws (plays hs ds) (bank_list clock_of hs ms) (hosts_of hs ms) (rest ps)
-      (clocks_fit hs ms c) (record { devices = bank_map (addressed_device hs ds) ds ps; ports_are = refl }) in
+      (clocks_fit hs ms c) (record { devices = bank_map addressed_device ds ps; ports_are = refl }) in
       let as_law : used_as hs ds (use_after hs ds x cs) ≡ law_uses hs ds (law_made transfers (ports_side ds) (all_hosts hs) (bank_list clock_of hs ms) (hosts_of hs ms) (rest ps)) w.steps = w.as_law ∙ ap (λ y. law_uses hs ds y w.steps) (begins_as ms ps) in
       lawful hs ds (use_after hs ds x cs) w.good (subst (LawLaw transfers (ports_side ds) slots_left (all_hosts hs)) (sym as_law) (all w.steps w.held))
 
@@ -94,6 +96,6 @@ module _ (hs : List HostBehaviour) (ds : List Behaviour) where
       let x = new_use hs ds ms ps in
       let w = reached hs ds x cs (begins_good ms ps) in
       let all = every_stands transfers (ports_side ds) slots_left (all_hosts hs) Alike IsLegal (Idle ds) laws (plays hs ds) (bank_list clock_of hs ms) (hosts_of hs ms) (rest ps)
-      (clocks_fit hs ms c) (record { devices = bank_map (addressed_device hs ds) ds ps; ports_are = refl }) w.steps w.held in
+      (clocks_fit hs ms c) (record { devices = bank_map addressed_device ds ps; ports_are = refl }) w.steps w.held in
       let as_law : used_as hs ds (use_after hs ds x cs) ≡ law_uses hs ds (law_made transfers (ports_side ds) (all_hosts hs) (bank_list clock_of hs ms) (hosts_of hs ms) (rest ps)) w.steps = w.as_law ∙ ap (λ y. law_uses hs ds y w.steps) (begins_as ms ps) in
       subst (λ y. (n : ℕ) × Stands transfers (ports_side ds) slots_left Alike IsLegal (Idle ds) y.bus y.book.armed y.book.side y.book.turn y.watch n) (sym as_law) all

@@ -10,7 +10,8 @@ use Rattle.law.specs.Book.{Entry, entry_is_armed}
 use Rattle.law.specs.Bus.{HoldAnswers, tick_at, told_at, is_at_rest}
 use Rattle.master.specs.Master.{HostedMaster, hosted_is_armed, hosted_mark, hosted_pulls}
 use Rattle.law.specs.TransferResult.{AddressedDevice}
-use Rattle.law.specs.Law.{true_count, Use, use_after_tick, use_after_ticks, ticks_of_run, addressed_device}
+use Rattle.law.specs.Use.{Use, use_after_tick, use_after_ticks, ticks_of_run, addressed_device}
+use Rattle.law.specs.Law.{true_count}
 use Rattle.master.specs.MasterState.{quiet, lost}
 use Rattle.port.specs.Port.{PortModel}
 use Rattle.law.specs.Run.{some_count, Running, run_after_ticks}
@@ -52,7 +53,7 @@ lost_at (h ∷ hs) ms s zero e = grind arith
 lost_at (h ∷ hs) ms s (suc i) e = lost_at hs ms.1 s i e
 
 module _ (hs : List HostBehaviour) (ds : List Behaviour) where
-  pub placed_back : (es : List Behaviour) (p : Bank PortModel es) (d : Bank AddressedDevice es) → bank_map unheld es p ≡ idle_ports es d → bank_map (addressed_device hs ds) es p ≡ d
+  pub placed_back : (es : List Behaviour) (p : Bank PortModel es) (d : Bank AddressedDevice es) → bank_map unheld es p ≡ idle_ports es d → bank_map addressed_device es p ≡ d
   placed_back [] p d e = refl
   placed_back (b ∷ es) p d e = λ i. (record { address = (e i).0.address; meaning = (e i).0.meaning }, placed_back es p.1 d.1 (λ j. (e j).1) i)
 

@@ -11,11 +11,13 @@ use Rattle.law.specs.Bank.{Bank, bank_list, any_true}
 use Rattle.law.specs.Book.{entry_is_armed, Turn, opened, Book, book_arm, contender_results, least_result}
 use Rattle.law.specs.Bus.{BusModel, HoldAnswers, arm_at, levels_at, told_at}
 use Rattle.law.specs.TransferResult.{TransferResult}
-use Rattle.law.specs.Law.{Call, runs, Use, event_at, marks_of, monitor_after, use_after_call, use_after, use_after_ticks, ticks_of_run, ticks_of_call, ticks_of, armed_now, true_count, Point, Loses, StopTells, TickLaw, Law}
+use Rattle.law.specs.Use.{Call, runs, Use, event_at, marks_of, monitor_after, use_after_call, use_after, use_after_ticks, ticks_of_run, ticks_of_call, ticks_of, armed_now}
+use Rattle.law.specs.Law.{true_count, Point, Loses, StopTells, TickLaw, Law}
 use Rattle.master.specs.MasterState.{quiet, lost, VerdictModel, master_step}
 use Rattle.master.specs.Master.{HostedMaster, mark_of, told_outcome, hosted_mark, hosted_told}
 use Rattle.wire.specs.declared.wire.Signal.{Signal}
-use Rattle.law.specs.Run.{is_told, RunModel, Running, run_after_ticks, run_start, run_report, run_at}
+use Rattle.law.specs.Run.{RunModel, Running, run_after_ticks, run_start, run_report, run_at}
+use Rattle.master.specs.Mark.{is_told}
 use Rattle.master.specs.Script.{transfers}
 use Rattle.law.specs.Letter.{rank, first_or_same}
 use Rattle.wire.specs.Wire.{signal}

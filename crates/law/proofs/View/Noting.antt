@@ -16,7 +16,7 @@ use Rattle.law.specs.AskedLaw.{StepsNoted, with_step, noting_steps, all_noting_s
 use Rattle.law.specs.Bank.{Bank, bank_map, bank_list}
 use Rattle.law.specs.Bus.{HoldAnswers, ports_step}
 use Rattle.law.specs.TransferResult.{AddressedDevice}
-use Rattle.law.specs.Law.{lists_appended}
+use Rattle.law.specs.Use.{lists_appended}
 use Rattle.law.proofs.Alone.PortsSide.{unheld, idle_ports, placed}
 use Rattle.law.proofs.Alone.Reached.{noted_by}
 use Rattle.law.proofs.View.Morphisms.{Morphism, Morphisms, port_to, sees_to, devices_to, ports_to}

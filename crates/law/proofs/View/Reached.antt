@@ -3,7 +3,7 @@ use Rattle.std.proofs.Common.{◌≡◌, ℕ, zero, suc, ◌+◌, Bool, cond, lt
 use Rattle.device.specs.Device.{Behaviour}
 use Rattle.host.specs.Host.{HostBehaviour}
 use Rattle.law.specs.Bus.{HoldAnswers, is_at_rest}
-use Rattle.law.specs.Law.{Call, arms, ticks, runs, Use, use_after_tick, use_after_ticks, use_after_call, use_after, ticks_of_run, ticks_of_call, ticks_of}
+use Rattle.law.specs.Use.{Call, arms, ticks, runs, Use, use_after_tick, use_after_ticks, use_after_call, use_after, ticks_of_run, ticks_of_call, ticks_of}
 use Rattle.law.specs.Limits.{most_ticks}
 use Rattle.master.specs.Script.{transfers}
 use Rattle.law.proofs.Alone.PortsSide.{ports_side}

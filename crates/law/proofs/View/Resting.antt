@@ -11,7 +11,7 @@ use Rattle.law.specs.Bank.{Bank, bank_map, bank_list}
 use Rattle.law.specs.Book.{closed}
 use Rattle.law.specs.Bus.{levels_at}
 use Rattle.law.specs.TransferResult.{AddressedDevice}
-use Rattle.law.specs.Law.{Use, steps_at, no_steps}
+use Rattle.law.specs.Use.{Use, steps_at, no_steps}
 use Rattle.law.proofs.Alone.PortsSide.{unheld, idle_port, idle_ports}
 use Rattle.law.proofs.View.Alongside.{ports_at_rest}
 use Rattle.law.proofs.View.Beginning.{StandsAt}

@@ -6,7 +6,8 @@ use Rattle.wire.specs.declared.wire.Signal.{Signal}
 use Rattle.law.specs.Bank.{Bank, bank_map}
 use Rattle.law.specs.Bus.{arm_master_at, HoldAnswers, BusModel, levels_at, told_at}
 use Rattle.master.specs.Master.{HostedMaster, hosted_step}
-use Rattle.law.specs.Law.{arms, Use, event_at, marks_of, monitor_after, monitor_after_marks, use_after_tick, use_after_call}
+use Rattle.law.specs.Monitor.{monitor_after_marks}
+use Rattle.law.specs.Use.{arms, Use, event_at, marks_of, monitor_after, use_after_tick, use_after_call}
 use Rattle.master.specs.Script.{transfers}
 use Rattle.wire.specs.Event.{event_between}
 use Rattle.wire.specs.Wire.{signal}

@@ -10,7 +10,8 @@ use Rattle.wire.specs.declared.wire.Signal.{Signal}
 use Rattle.law.specs.Bank.{Bank, bank_map, bank_list, any_true}
 use Rattle.law.specs.Book.{Entry, entry_contending, entry_is_armed, Turn, closed, opened, is_open, Book, book_after}
 use Rattle.master.specs.Master.{HostedMaster, hosted_mark, hosted_told, told_outcome}
-use Rattle.law.specs.Law.{Monitor, monitor_with, monitor_after_event, monitor_after_start, lost_after, monitor_after}
+use Rattle.law.specs.Monitor.{Monitor, new_monitor, monitor_after_event, monitor_after_start, marked_after}
+use Rattle.law.specs.Use.{monitor_after}
 use Rattle.master.specs.MasterState.{VerdictModel}
 use Rattle.law.specs.Run.{some_count}
 use Rattle.master.specs.Script.{transfers}
@@ -27,7 +28,7 @@ ranks_append : (ts us : List Letter) → map rank (ts ++ us) ≡ map rank ts ++ 
 ranks_append [] us = refl
 ranks_append (t ∷ ts) us = ap (λ l. rank t ∷ l) (ranks_append ts us)
 
-falls_as : (w : Monitor) (o : Option Bool) → w.latch ≡ o → noted_as (monitor_after_event (monitor_with w.falls w.risen w.marked o w.spelled) Fall) ≡ watch (suc w.falls) false w.marked (fallen o (map rank w.spelled))
+falls_as : (w : Monitor) (o : Option Bool) → w.latch ≡ o → noted_as (monitor_after_event (record w { latch = o }) Fall) ≡ watch (suc w.falls) false w.marked (fallen o (map rank w.spelled))
 falls_as w None e = ap (λ l. watch (suc w.falls) false w.marked (spell None l)) (append_none w.spelled) where
   append_none : (ts : List Letter) → map rank (ts ++ []) ≡ map rank ts
   append_none [] = refl
@@ -56,13 +57,13 @@ module _ (hs : List HostBehaviour) (ds : List Behaviour) where
   opening_as : (w : Monitor) (b : Book hs ds) (v : Bool) →
       noted_as (cond (is_open (cond {A = Book hs ds} v (record { entries = bank_map entry_contending hs b.entries; devices = b.devices; turn = opened })
       (record { entries = b.entries; devices = b.devices; turn = closed })).turn)
-      (monitor_with 0 false (bank_list (λ h x. false) hs b.entries) None []) w)
+      (new_monitor (bank_list (λ h x. false) hs b.entries)) w)
       ≡ cond v (watch 0 false (falses (tasks hs b.entries)) (spell None [])) (noted_as w)
   opening_as w b true = ap (λ l. watch 0 false l (spell None [])) (falses_are hs b.entries)
   opening_as w b false = refl
 
   closed_as : (w : Monitor) (b : Book hs ds) (e : Event) → Kept hs b.entries →
-      noted_as (cond (is_open (book_after hs ds (record { entries = b.entries; devices = b.devices; turn = closed }) e).turn) (monitor_with 0 false (bank_list (λ h x. false) hs b.entries) None []) (monitor_after_event w e))
+      noted_as (cond (is_open (book_after hs ds (record { entries = b.entries; devices = b.devices; turn = closed }) e).turn) (new_monitor (bank_list (λ h x. false) hs b.entries)) (monitor_after_event w e))
       ≡ turned transfers (noted_as w) (tasks hs b.entries) None e
   closed_as w b SteadyHigh k = opening_as w b (any_true (bank_list entry_is_armed hs b.entries))
       ∙ ap (λ v. cond v (watch 0 false (falses (tasks hs b.entries)) (spell None [])) (noted_as w)) (sym (any_armed hs b.entries k))
@@ -82,7 +83,7 @@ module _ (hs : List HostBehaviour) (ds : List Behaviour) where
 
 -- marks by verdicts
 pub marked_as : (hs : List HostBehaviour) (ms : Bank HostedMaster hs) (s : Signal) (vs : List Bool) →
-    lost_after vs (bank_list (λ h. hosted_mark h s) hs ms) ≡ marks_too transfers vs (verdicts transfers (masters_of hs ms) s)
+    marked_after vs (bank_list (λ h. hosted_mark h s) hs ms) ≡ marks_too transfers vs (verdicts transfers (masters_of hs ms) s)
 marked_as [] ms s [] = refl
 marked_as [] ms s (v ∷ vs) = refl
 marked_as (h ∷ hs) ms s [] = refl
