@@ -1,4 +1,4 @@
-pub mod Tolds
+pub mod Letters
 pub mod Sides
 pub mod Alone
 pub mod Law

@@ -3,6 +3,7 @@ use Rattle.std.proofs.Common.{◌≡◌, ℕ, zero, suc, Bool, true, false, cond
 use Rattle.master.specs.declared.symbol.Symbol.{Symbol}
 use Rattle.master.specs.declared.symbol.Symbol.TheVariants.{Zero, One, Listen, RepeatedStart, Stop}
 use Rattle.master.specs.Script.{Script}
+use Rattle.law.specs.Letter.{Letter, zero as low, stop, restart, one}
 
 pub record Side : Type 1 where
   pub S : Type 0
@@ -21,13 +22,13 @@ ends RepeatedStart = false
 ends Stop = true
 
 module _ (D : Side) where
-  -- letters by their rank: 0 is 0, 1 the stop, 2 the repeated start, 3 is 1
-  abbrev pub letter : Symbol → D.S → ℕ
-  letter Zero s = 0
-  letter Stop s = 1
-  letter RepeatedStart s = 2
-  letter One s = 3
-  letter Listen s = cond (D.pulls s) 0 3
+  -- the letter that a slot spells
+  abbrev pub letter : Symbol → D.S → Letter
+  letter Zero s = low
+  letter Stop s = stop
+  letter RepeatedStart s = restart
+  letter One s = one
+  letter Listen s = cond (D.pulls s) low one
 
   abbrev pub heard : Symbol → D.S → Bool
   heard Zero s = false
@@ -45,7 +46,7 @@ module _ (D : Side) where
 
 module _ (W : Script) (D : Side) where
   -- within n slots: the string that a cursor carries alone, the side at its end, and the cursor that shows the stop
-  abbrev pub string : ℕ → W.Cursor → D.S → List ℕ
+  abbrev pub string : ℕ → W.Cursor → D.S → List Letter
   string zero c s = []
   string (suc n) c s = letter D (W.symbol c) s ∷ cond (ends (W.symbol c)) [] (string n (W.next c (heard D (W.symbol c) s)) (after D (W.symbol c) s))
 

@@ -1,6 +1,5 @@
 -- A transfer played alone, after an A for the call of a leg or for a byte written in it: the ports are those of the leg's devices after the bytes so far, and somebody is in.
 use Rattle.std.proofs.Common.{◌≡◌, ℕ, zero, suc, ◌+◌, ◌*◌, ◌<◌, ◌≤◌, Bool, true, false, cond, List, [], ◌∷◌, ◌++◌, length, take, get_or, map, Some, None, Option, sym, refl, ap, ◌∙◌, subst, arith}
-use Rattle.std.proofs.Math.ListN.{get_or-map}
 use Rattle.transfer.specs.declared.leg.Direction.TheVariants.{Write}
 use Rattle.transfer.specs.declared.outcome.OutcomeKind.{OutcomeKind}
 use Rattle.transfer.specs.declared.outcome.OutcomeKind.TheVariants.{Done, NoAnswer, Refused}
@@ -16,7 +15,7 @@ use Rattle.law.specs.Bank.{Bank, bank_map}
 use Rattle.law.specs.TransferResult.{AddressedDevice, DeviceInLeg, device_after_take, device_after_leg, call_byte, byte_levels, LegResult, leg_end, any_in, write_result, read_result, body_result, leg_result, result_after_leg, transfer_result}
 use Rattle.law.specs.Facts.{devices_after_puts, write_leg}
 use Rattle.law.specs.Legal.{IsLegalBody, IsLegalLeg, IsLegalSecond, IsLegal}
-use Rattle.law.specs.Letter.{Letter, zero as low, stop, restart, one, rank, bit_letter}
+use Rattle.law.specs.Letter.{Letter, zero as low, stop, restart, one, bit_letter}
 use Rattle.law.proofs.Sides.{Side, ends as ends_with, heard, after, string, last}
 use Rattle.law.proofs.Alone.ByteLaws.{took, ninth, later, nine}
 use Rattle.law.proofs.Alone.CarriedAlone.{carried_alone}
@@ -56,14 +55,14 @@ module _ (W : Script) (D : Side) where
   last_past m zero (b ∷ bs) c s u e h = absurd (omega arith)
   last_past m (suc n) (b ∷ bs) c s u e h = one_slot n c s (D.bit s b) b (level_slot D (W.symbol c) s b h.0) ∙ last_past m n bs (W.next c b) (D.bit s b) u (omega arith) h.1
 
-  longer_either : (v : Bool) (j : ℕ) (ts us : List ℕ) → (get_or ts j 3 ≡ 0 → get_or us j 3 ≡ 0) → get_or (cond v [] ts) j 3 ≡ 0 → get_or (cond v [] us) j 3 ≡ 0
+  longer_either : (v : Bool) (j : ℕ) (ts us : List Letter) → (get_or ts j one ≡ low → get_or us j one ≡ low) → get_or (cond v [] ts) j one ≡ low → get_or (cond v [] us) j one ≡ low
   longer_either true j ts us g e = e
   longer_either false j ts us g e = g e
 
   -- a letter of fewer slots is one of more
-  string_longer : (k n j : ℕ) (c : W.Cursor) (s : D.S) → k ≤ n → get_or (string W D k c s) j 3 ≡ 0 → get_or (string W D n c s) j 3 ≡ 0
-  string_longer zero n zero c s h e = absurd (omega arith)
-  string_longer zero n (suc j) c s h e = absurd (omega arith)
+  string_longer : (k n j : ℕ) (c : W.Cursor) (s : D.S) → k ≤ n → get_or (string W D k c s) j one ≡ low → get_or (string W D n c s) j one ≡ low
+  string_longer zero n zero c s h e = cc
+  string_longer zero n (suc j) c s h e = cc
   string_longer (suc k) zero j c s h e = absurd (omega arith)
   string_longer (suc k) (suc n) zero c s h e = e
   string_longer (suc k) (suc n) (suc j) c s h e = let u = after D (W.symbol c) s in let q = W.next c (heard D (W.symbol c) s) in
@@ -93,9 +92,6 @@ past_restart [] us i zero h = absurd (omega arith)
 past_restart [] us i (suc n) h = let z : n ≡ i = omega arith in ap (λ m. get_or us m one) z
 past_restart (v ∷ ls) us i zero h = absurd (omega arith)
 past_restart (v ∷ ls) us i (suc n) h = past_restart ls us i n (omega arith)
-
-low_rank : (x : Letter) → rank x ≡ 0 → x ≡ low
-low_rank x h = grind arith
 
 writes_within : (b : BodyModel) → body_writes b ≤ body_size b
 writes_within (writes xs) = omega arith
@@ -276,11 +272,10 @@ module _ (ds : List Behaviour) where
   transfer_answered t d (suc (suc k)) m g l e h q = cc
 
   -- within some slots a letter is the carried string's
-  pub low_carried : (t : TransferModel) (d : Bank AddressedDevice ds) (i j : ℕ) → IsLegal t → get_or (string transfers E i (new_cursor t) (opened_ports ds d)) j 3 ≡ 0 → get_or (transfer_result ds t d).letters j one ≡ low
+  pub low_carried : (t : TransferModel) (d : Bank AddressedDevice ds) (i j : ℕ) → IsLegal t → get_or (string transfers E i (new_cursor t) (opened_ports ds d)) j one ≡ low → get_or (transfer_result ds t d).letters j one ≡ low
   low_carried t d i j g q = let n = i + slots_left (new_cursor t) in
       let z = string_longer transfers E i n j (new_cursor t) (opened_ports ds d) (omega arith) q in
-      low_rank (get_or (transfer_result ds t d).letters j one)
-      (sym (get_or-map rank (transfer_result ds t d).letters j one) ∙ (sym (ap (λ l. get_or l j 3) (carried_alone ds t d n g (omega arith)).same_letters) ∙ z))
+      sym (ap (λ l. get_or l j one) (carried_alone ds t d n g (omega arith)).same_letters) ∙ z
 
   pub answered : (t : TransferModel) (d : Bank AddressedDevice ds) (k m : ℕ) (g : LegModel) → IsLegal t → leg_of t k ≡ Some g → m ≤ body_writes g.body →
       get_or (transfer_result ds t d).letters (acknowledge_at t k m) one ≡ low → HasAnswered (acknowledge_at t k m) (new_cursor t) (opened_ports ds d) g m

@@ -6,6 +6,8 @@ use Rattle.transfer.specs.Leg.{LegModel}
 use Rattle.master.specs.declared.symbol.Symbol.{Symbol}
 use Rattle.master.specs.declared.symbol.Symbol.TheVariants.{Zero, One, Listen, RepeatedStart, Stop}
 use Rattle.master.specs.Cursor.{Play, at_end, at_restart, in_leg, CursorModel, new_cursor, is_write, master_sends, leg_size, symbol_in_leg, symbol_of, cursor_next}
+use Rattle.master.specs.Script.{transfers}
+use Rattle.law.proofs.Law.Race.{Laws}
 use Rattle.law.proofs.Sides.{ends}
 use Rattle.law.specs.Legal.{IsLegalLeg, IsLegalSecond, IsLegal}
 use Rattle.law.proofs.Alone.Moves.{leaves, goes_on, moves, next_is}
@@ -127,27 +129,22 @@ still_alike (in_leg f m x a) (at_restart g) t (inl h) e = elim h [ ]
 still_alike (in_leg f m x a) (in_leg g o y b) t (inl h) e =
     rw (← h.same_byte, ← h.same_bit) (sends_alike f g m o x a t h.one_legal h.other_legal h.one_way (rw (← h.same_byte, ← h.same_bit) at e))
 
-pub record CursorLaws : Type 0 where
-  pub some_left : (c : CursorModel) → 1 ≤ slots_left c
-  pub fewer : (c : CursorModel) (heard : Bool) → (symbol_of c.play ≡ Stop → ⊥) → slots_left (cursor_next c heard) < slots_left c
-  pub both_listen : (c e : CursorModel) → Alike c e → symbol_of c.play ≡ Listen → symbol_of e.play ≡ Listen
-  pub still_alike : (c e : CursorModel) (heard : Bool) → Alike c e → symbol_of c.play ≡ symbol_of e.play → Alike (cursor_next c heard) (cursor_next e heard)
-  pub open_alike : (t u : TransferModel) → IsLegal t → IsLegal u → Alike (new_cursor t) (new_cursor u)
-
 not_stop : (x : Symbol) → (x ≡ Stop → ⊥) → ends x ≡ false
 not_stop x h = grind arith
 
-pub cursor_laws : CursorLaws
+pub cursor_laws : Laws transfers slots_left Alike
 cursor_laws = record {
   some_left = some_left;
   fewer = λ c heard h. fewer c heard (not_stop (symbol_of c.play) h);
   both_listen = λ c e h k. both_listen c.play e.play h k;
   still_alike = λ c e heard h k. rw (next_is c.play c.notes heard, next_is e.play e.notes heard) (still_alike c.play e.play heard h k);
-  open_alike = λ t u h k. inl (record {
-    same_byte = refl;
-    same_bit = refl;
-    one_way = inl (refl, omega arith);
-    one_legal = (h.first_leg, h.second_leg);
-    other_legal = (k.first_leg, k.second_leg);
-  });
 }
+
+pub open_alike : (t u : TransferModel) → IsLegal t → IsLegal u → Alike (new_cursor t) (new_cursor u)
+open_alike t u h k = inl (record {
+  same_byte = refl;
+  same_bit = refl;
+  one_way = inl (refl, omega arith);
+  one_legal = (h.first_leg, h.second_leg);
+  other_legal = (k.first_leg, k.second_leg);
+})

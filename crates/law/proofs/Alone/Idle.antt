@@ -1,6 +1,6 @@
 -- The ports between turns: they pull nothing, and a transfer alone finds them so and leaves them so.
 use Rattle.std.proofs.Common.{◌≡◌, ℕ, ◌≤◌, false, List, sym, refl, ap, ◌∙◌, subst, le_refl}
-use Rattle.transfer.specs.Transfer.{TransferModel, transfer_model}
+use Rattle.transfer.specs.Transfer.{TransferModel}
 use Rattle.device.specs.Device.{Behaviour}
 use Rattle.law.specs.Bank.{Bank}
 use Rattle.law.specs.TransferResult.{AddressedDevice, transfer_result}
@@ -11,12 +11,8 @@ use Rattle.law.proofs.Sides.{last, QuietFor}
 use Rattle.law.proofs.Alone.Banks.{none_each}
 use Rattle.law.proofs.Alone.CarriedAlone.{carried_alone}
 use Rattle.law.specs.Legal.{IsLegal}
-use Rattle.law.specs.Limits.{most_letters}
 use Rattle.law.proofs.Alone.PortsSide.{pulling, ports_side, idle_port, idle_ports}
-use Rattle.law.proofs.Alone.SlotsLeft.{slots_left, at_most}
-use Rattle.transfer.specs.declared.draft.Transfer.{Transfer}
-use Rattle.law.proofs.Alone.Sealed.{legal_transfer}
-use Rattle.law.proofs.Alone.Statements.{Agrees}
+use Rattle.law.proofs.Alone.SlotsLeft.{slots_left}
 
 module _ (ds : List Behaviour) where
   pub record Idle (s : Bank PortModel ds) : Type 0 where
@@ -36,7 +32,3 @@ module _ (ds : List Behaviour) where
     devices = (transfer_result ds t h.devices).devices;
     ports_are = ap (λ u. last transfers (ports_side ds) n (new_cursor t) ((ports_side ds).begin u)) h.ports_are ∙ (carried_alone ds t h.devices n k b).same_devices;
   }
-
-  -- for a transfer of the code the slots of the longest string are enough
-  pub sealed_alone : (t : Transfer) (d : Bank AddressedDevice ds) → Agrees ds (transfer_model t) d most_letters
-  sealed_alone t d = let h = legal_transfer t in carried_alone ds (transfer_model t) d most_letters h (at_most (transfer_model t) h)

@@ -1,5 +1,5 @@
 -- All ports as the far side that a script is played against, and how it follows the ports at each event.
-use Rattle.std.proofs.Common.{◌≡◌, ℕ, Bool, List, [], ◌∷◌, Some, None, Option, refl, arith, ap}
+use Rattle.std.proofs.Common.{◌≡◌, ℕ, Bool, List, [], ◌∷◌, Some, None, Option, refl, arith}
 use Rattle.device.specs.Device.{Behaviour}
 use Rattle.port.specs.declared.port.Mode.{Mode}
 use Rattle.port.specs.declared.port.Mode.TheVariants.{Out, Addressing}
@@ -8,7 +8,7 @@ use Rattle.wire.specs.declared.event.Event.TheVariants.{Rise, Fall, Start, Stop,
 use Rattle.wire.specs.declared.wire.Signal.{Signal}
 use Rattle.law.specs.Bank.{Bank, bank_map, bank_list}
 use Rattle.law.specs.Bus.{all_pulls, HoldAnswers, ports_step}
-use Rattle.port.specs.Port.{PortModel, mode_pulls, port_pulls, port_after_bit, port_after_finish, new_port, reset_port}
+use Rattle.port.specs.Port.{PortModel, mode_pulls, port_pulls, port_after_bit, port_after_finish, new_port}
 use Rattle.law.specs.TransferResult.{AddressedDevice}
 use Rattle.wire.specs.ByteProgress.{progress}
 use Rattle.law.proofs.Sides.{Side}
@@ -75,14 +75,6 @@ pub side_pulls : (ds : List Behaviour) (s : Bank PortModel ds) → (all_pulls (b
 side_pulls [] s = refl
 side_pulls (b ∷ ds) s = grind (arith, side_pulls ds)
 
-pub unheld_settles : (b : Behaviour) (p : PortModel b) (m : Mode) → unheld b (port_after_finish b p m) ≡ port_after_finish b (unheld b p) m
-unheld_settles b p m = refl
-
 -- where a port is, and what its device means
 abbrev pub placed : (b : Behaviour) → PortModel b → AddressedDevice b
 placed b p = record { address = p.address; meaning = p.meaning }
-
--- ports of a new bus are idle
-pub new_ports_idle : (ds : List Behaviour) (s : Bank PortModel ds) → bank_map reset_port ds s ≡ idle_ports ds (bank_map placed ds s)
-new_ports_idle [] s = refl
-new_ports_idle (b ∷ ds) s = ap (λ r. (reset_port b s.0, r)) (new_ports_idle ds s.1)

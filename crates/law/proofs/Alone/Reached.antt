@@ -16,6 +16,7 @@ use Rattle.law.specs.Bank.{Bank, bank_map, bank_list}
 use Rattle.law.specs.TransferResult.{AddressedDevice, DeviceInLeg, device_after_select, device_after_call, device_put, device_after_take, any_in}
 use Rattle.law.specs.Facts.{devices_after_puts, write_leg, read_leg}
 use Rattle.law.specs.Legal.{IsLegal}
+use Rattle.law.specs.Letter.{zero as low, one}
 use Rattle.law.proofs.Sides.{string, last}
 use Rattle.law.proofs.Alone.Acknowledged.{in_leg_after, HasAnswered, low_carried, answered}
 use Rattle.law.proofs.Alone.Phases.{writing_at, reading_at, device_in_leg, called_for, put_to_all, ready}
@@ -102,7 +103,7 @@ module _ (a m : ℕ) where
 
 -- once the slots up to this acknowledge are gone, and its own
 pub played_reached : (ds : List Behaviour) (t : TransferModel) (d : Bank AddressedDevice (all_noting_steps ds)) (i k m : ℕ) (g : LegModel) → IsLegal t → leg_of t k ≡ Some g → m ≤ body_writes g.body →
-    get_or (string transfers (ports_side (all_noting_steps ds)) i (new_cursor t) (opened_ports (all_noting_steps ds) d)) (acknowledge_at t k m) 3 ≡ 0 →
+    get_or (string transfers (ports_side (all_noting_steps ds)) i (new_cursor t) (opened_ports (all_noting_steps ds) d)) (acknowledge_at t k m) one ≡ low →
     Reached ds g m (last transfers (ports_side (all_noting_steps ds)) (suc (acknowledge_at t k m)) (new_cursor t) (opened_ports (all_noting_steps ds) d))
 played_reached ds t d i k m g l e h q = let es = all_noting_steps ds in let j = acknowledge_at t k m in
     let p : HasAnswered es j (new_cursor t) (opened_ports es d) g m = answered es t d k m g l e h (low_carried es t d i j l q) in

@@ -5,7 +5,7 @@ use Rattle.master.specs.declared.symbol.Symbol.{Symbol}
 use Rattle.master.specs.declared.symbol.Symbol.TheVariants.{Listen, RepeatedStart, Stop}
 use Rattle.wire.specs.ByteProgress.{bit_at, shift_in}
 use Rattle.master.specs.Script.{Script}
-use Rattle.law.specs.Letter.{Letter, stop, restart, rank, bit_letter}
+use Rattle.law.specs.Letter.{Letter, stop, restart, bit_letter}
 use Rattle.master.specs.Symbol.{bit_symbol}
 use Rattle.law.proofs.Sides.{Side, ends, letter, heard, after, string, last, final, QuietFor}
 use Rattle.law.proofs.Alone.Octets.{shifted_digit}
@@ -22,7 +22,7 @@ low_bits (suc k) x bs = bit_at x k ∷ low_bits k x bs
 module _ (D : Side) where
   -- a slot that goes on
   pub record Slot (x : Symbol) (s : D.S) (t : Letter) (b : Bool) (u : D.S) : Type 0 where
-    pub letter_is : letter D x s ≡ rank t
+    pub letter_is : letter D x s ≡ t
     pub heard_is : heard D x s ≡ b
     pub after_is : after D x s ≡ u
     pub open_is : ends x ≡ false
@@ -67,7 +67,7 @@ module _ (W : Script) (D : Side) where
 module _ (W : Script) (D : Side) (slots_left : W.Cursor → ℕ) where
   -- within its slots a script played alone spells ts, shows the stop at e and leaves the side at u, which pulls only where it listens
   pub record Comes (c : W.Cursor) (s : D.S) (ts : List Letter) (e : W.Cursor) (u : D.S) : Type 0 where
-    pub string_is : (n : ℕ) → slots_left c ≤ n → string W D n c s ≡ map rank ts
+    pub string_is : (n : ℕ) → slots_left c ≤ n → string W D n c s ≡ ts
     pub final_is : (n : ℕ) → slots_left c ≤ n → final W D n c s ≡ e
     pub last_is : (n : ℕ) → slots_left c ≤ n → last W D n c s ≡ u
     pub quiet : (n : ℕ) → QuietFor W D n c s

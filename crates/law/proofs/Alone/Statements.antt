@@ -1,5 +1,5 @@
 -- What is proved of a transfer alone: played bit by bit it is carried byte by byte.
-use Rattle.std.proofs.Common.{◌≡◌, ℕ, ◌≤◌, List, map}
+use Rattle.std.proofs.Common.{◌≡◌, ℕ, ◌≤◌, List}
 use Rattle.transfer.specs.Transfer.{TransferModel}
 use Rattle.device.specs.Device.{Behaviour}
 use Rattle.law.specs.Bank.{Bank}
@@ -8,7 +8,6 @@ use Rattle.master.specs.Cursor.{new_cursor, outcome_of}
 use Rattle.law.specs.Legal.{IsLegal}
 use Rattle.port.specs.Port.{PortModel}
 use Rattle.master.specs.Script.{transfers}
-use Rattle.law.specs.Letter.{rank}
 use Rattle.law.proofs.Sides.{string, last, final, QuietFor}
 use Rattle.law.proofs.Alone.PortsSide.{ports_side, idle_ports}
 use Rattle.law.proofs.Alone.SlotsLeft.{slots_left}
@@ -20,7 +19,7 @@ module _ (ds : List Behaviour) where
 
   -- within n slots
   pub record Agrees (t : TransferModel) (d : Bank AddressedDevice ds) (n : ℕ) : Type 0 where
-    pub same_letters : string transfers (ports_side ds) n (new_cursor t) (opened_ports d) ≡ map rank (transfer_result ds t d).letters
+    pub same_letters : string transfers (ports_side ds) n (new_cursor t) (opened_ports d) ≡ (transfer_result ds t d).letters
     pub same_outcome : outcome_of (final transfers (ports_side ds) n (new_cursor t) (opened_ports d)) ≡ (transfer_result ds t d).outcome
     pub same_devices : last transfers (ports_side ds) n (new_cursor t) (opened_ports d) ≡ idle_ports ds (transfer_result ds t d).devices
     -- the ports pull SDA only where the script listens

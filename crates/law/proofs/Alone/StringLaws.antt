@@ -1,7 +1,6 @@
 -- The laws of strings: one stop, at the end; at most most_letters letters; none begins another; the string says the outcome.
 use Rattle.std.proofs.Common.{◌≡◌, ℕ, suc, ◌≤◌, Bool, cond, ltb, ◌⊎◌, List, [], ◌∷◌, ◌++◌, map, length, get_or, Some, None, Option, sym, refl, ap, ◌∙◌, inl, inr, append_assoc, le_refl, arith}
 use Rattle.std.proofs.Math.Seq.{get_or-append_seam}
-use lib.ListN.{length-map}
 use Rattle.std.proofs.lemmas.Bool.{ne_eqb}
 use Rattle.transfer.specs.declared.outcome.OutcomeKind.{OutcomeKind}
 use Rattle.transfer.specs.declared.outcome.OutcomeKind.TheVariants.{Done, NoAnswer, Refused}
@@ -14,7 +13,7 @@ use Rattle.master.specs.Cursor.{at_end, cursor_at, new_cursor, outcome_of}
 use Rattle.master.specs.Script.{Script, transfers}
 use Rattle.law.specs.Letter.{Letter, stop, restart, one, rank, bit_letter, first_or_same}
 use Rattle.law.proofs.Sides.{Side, ends, heard, after, string}
-use Rattle.law.proofs.Alone.Alike.{cursor_laws}
+use Rattle.law.proofs.Alone.Alike.{open_alike}
 use Rattle.law.proofs.Alone.CarriedAlone.{carried_alone}
 use Rattle.law.specs.Legal.{IsLegal}
 use Rattle.law.specs.Limits.{most_letters}
@@ -22,30 +21,8 @@ use Rattle.law.specs.Facts.{WithoutStop, OneStop, IsParting, IsBit, ZeroAgainstO
 use Rattle.law.proofs.Alone.PortsSide.{ports_side}
 use Rattle.law.proofs.Alone.SlotsLeft.{slots_left, at_most}
 use Rattle.law.proofs.Alone.Statements.{opened_ports}
+use Rattle.law.proofs.Letters.{same_rank, cases_letter}
 use Rattle.law.proofs.Alone.Told.{Twins, same_end}
-
--- letters are told apart by their rank
-abbrev pub letter_of : ℕ → Letter
-letter_of ℕ.zero = Letter.zero
-letter_of (suc ℕ.zero) = stop
-letter_of (suc (suc ℕ.zero)) = restart
-letter_of (suc (suc (suc n))) = one
-
-pub letter_back : (t : Letter) → letter_of (rank t) ≡ t
-letter_back t = grind arith
-
-pub letters_back : (ts : List Letter) → map letter_of (map rank ts) ≡ ts
-letters_back [] = refl
-letters_back (t ∷ ts) = λ i. letter_back t i ∷ letters_back ts i
-
-pub same_rank : (t u : Letter) → rank t ≡ rank u → t ≡ u
-same_rank t u h = grind arith
-
-pub same_ranks : (ts us : List Letter) → map rank ts ≡ map rank us → ts ≡ us
-same_ranks ts us e = sym (letters_back ts) ∙ ap (map letter_of) e ∙ letters_back us
-
-cases_letter : (t u : Letter) → (t ≡ u) ⊎ (t ≡ u → ⊥)
-cases_letter t u = grind arith
 
 bit_no_stop : (b : Bool) → bit_letter b ≡ stop → ⊥
 bit_no_stop b h = grind arith
@@ -117,7 +94,7 @@ module _ (W : Script) (D : Side) where
   bounded ℕ.zero c s = omega arith
   bounded (suc n) c s = go (ends (W.symbol c)) (string W D n (W.next c (heard D (W.symbol c) s)) (after D (W.symbol c) s)) (bounded n (W.next c (heard D (W.symbol c) s)) (after D (W.symbol c) s))
     where
-      go : (i : Bool) (ts : List ℕ) → length ts ≤ n → suc (length (cond i [] ts)) ≤ suc n
+      go : (i : Bool) (ts : List Letter) → length ts ≤ n → suc (length (cond i [] ts)) ≤ suc n
       go i ts h = grind arith
 
 module _ (ds : List Behaviour) where
@@ -141,7 +118,7 @@ module _ (ds : List Behaviour) where
   short : (t : TransferModel) (d : Bank AddressedDevice ds) → IsLegal t → length (transfer_result ds t d).letters ≤ most_letters
   short t d h = let ts = (transfer_result ds t d).letters in
       let a = carried_alone ds t d (slots_left (new_cursor t)) h (le_refl (slots_left (new_cursor t))) in
-      let e : length (string transfers (ports_side ds) (slots_left (new_cursor t)) (new_cursor t) (opened_ports ds d)) ≡ length ts = ap length a.same_letters ∙ length-map ts rank in
+      let e : length (string transfers (ports_side ds) (slots_left (new_cursor t)) (new_cursor t) (opened_ports ds d)) ≡ length ts = ap length a.same_letters in
       omega (arith, bounded transfers (ports_side ds) (slots_left (new_cursor t)) (new_cursor t) (opened_ports ds d), at_most t h)
 
 pub string_laws : (ds es : List Behaviour) → StringLaws ds es
@@ -153,9 +130,9 @@ string_laws ds es = record {
   same_outcome = λ t u d e h k q.
       let a = carried_alone ds t d (slots_left (new_cursor t)) h (le_refl (slots_left (new_cursor t))) in
       let b = carried_alone es u e (slots_left (new_cursor u)) k (le_refl (slots_left (new_cursor u))) in
-      let w : Twins (new_cursor t) (new_cursor u) = record { one_way = cursor_laws.open_alike t u h k; back = cursor_laws.open_alike u t k h; notes_same = refl } in
+      let w : Twins (new_cursor t) (new_cursor u) = record { one_way = open_alike t u h k; back = open_alike u t k h; notes_same = refl } in
       let s = same_end (ports_side ds) (ports_side es) (slots_left (new_cursor t)) (slots_left (new_cursor u)) (new_cursor t) (new_cursor u) (opened_ports ds d) (opened_ports es e) w
-      (le_refl (slots_left (new_cursor t))) (le_refl (slots_left (new_cursor u))) (a.same_letters ∙ ap (map rank) q ∙ sym b.same_letters) in
+      (le_refl (slots_left (new_cursor t))) (le_refl (slots_left (new_cursor u))) (a.same_letters ∙ q ∙ sym b.same_letters) in
       sym a.same_outcome ∙ ap (λ n. outcome_of (cursor_at at_end n)) s ∙ b.same_outcome;
   parting = λ t u d e. let a = carried_stop ds t d in let b = carried_stop es u e in
       rw (a.front_stop, b.front_stop) (parting a.front b.front a.no_other b.no_other);

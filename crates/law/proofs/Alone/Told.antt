@@ -4,16 +4,18 @@ use Rattle.std.proofs.lemmas.Bool.{true≢false, false≢true}
 use Rattle.master.specs.declared.symbol.Symbol.{Symbol}
 use Rattle.master.specs.Cursor.{Play, Notes, CursorModel, symbol_of, cursor_next}
 use Rattle.master.specs.Script.{transfers}
+use Rattle.law.specs.Letter.{Letter, zero as low, stop, restart, one}
 use Rattle.law.proofs.Sides.{Side, ends, letter, heard, after, string, final}
 use Rattle.law.proofs.Alone.Alike.{AlikePlay, Alike, cursor_laws}
 use Rattle.law.proofs.Alone.Moves.{notes_on, next_is}
 use Rattle.law.proofs.Alone.SlotsLeft.{slots_left, some_left, fewer}
 
 -- the level that a letter carries
-abbrev level_by : ℕ → Bool
-level_by zero = false
-level_by (suc zero) = false
-level_by (suc (suc n)) = true
+abbrev level_by : Letter → Bool
+level_by low = false
+level_by stop = false
+level_by restart = true
+level_by one = true
 
 module _ (D : Side) where
   heard_is : (x : Symbol) (s : D.S) → heard D x s ≡ level_by (letter D x s)
@@ -47,7 +49,7 @@ module _ (D E : Side) where
   step : (n k : ℕ) (c e : CursorModel) (s : D.S) (t : E.S) → Twins c e → slots_left c ≤ suc n → slots_left e ≤ suc k →
       ((c e : CursorModel) (s : D.S) (t : E.S) → SameEnd n k c e s t) → let x = symbol_of c.play in let y = symbol_of e.play in
       let c' = cursor_next c (heard D x s) in let e' = cursor_next e (heard E y t) in let s' = after D x s in let t' = after E y t in
-      (i j : Bool) → ends x ≡ i → ends y ≡ j → ◌≡◌ {A = List ℕ} (letter D x s ∷ cond i [] (string transfers D n c' s')) (letter E y t ∷ cond j [] (string transfers E k e' t')) →
+      (i j : Bool) → ends x ≡ i → ends y ≡ j → ◌≡◌ {A = List Letter} (letter D x s ∷ cond i [] (string transfers D n c' s')) (letter E y t ∷ cond j [] (string transfers E k e' t')) →
       (cond i c (final transfers D n c' s')).notes ≡ (cond j e (final transfers E k e' t')).notes
   step n k c e s t h l r ih true true p w v = h.notes_same
   step n k c e s t h l r ih true false p w v = absurd (true≢false (sym p ∙ ap ends (twins_show c e s t h (cc)) ∙ w))

@@ -1,23 +1,18 @@
 -- What a turn's slots say of the least string: who leads, who loses and when, and what the stop tells.
 use Rattle.std.proofs.Common.{◌≡◌, ℕ, zero, suc, ◌+◌, ◌<◌, ◌≤◌, Bool, true, false, cond, eqb, leb, ◌⊎◌, List, [], ◌∷◌, ◌++◌, length, take, is_some, Some, None, Option, sym, refl, ap, ◌∙◌, subst, ap₂, inl, inr, arith, take_all, take-suc}
-use Rattle.std.specs.Cmp.Lexicographic.{same_text}
-use Rattle.std.proofs.lemmas.Bool.{cases_lt, cases_Bool, leb-true, leb-false, eqb-true, eq-eqb}
+use Rattle.std.proofs.lemmas.Bool.{cases_lt, cases_Bool, leb-true, leb-false, eqb-true}
 use Rattle.master.specs.Script.{Script}
 use Rattle.law.proofs.Sides.{Side, ends, heard, after, final}
 use Rattle.law.proofs.Law.Phases.{rank}
-use Rattle.law.proofs.Law.Race.{at, common, lexb, First, lead, keep, Joint, moved, slot, slots, opened, alone, alone_end, Laws}
-use Rattle.law.proofs.Law.Uses.{Tasks, same, begin_one, begins, task_string, pick, leader, wins, leader_side}
+use Rattle.law.specs.Law.{FirstDifference}
+use Rattle.law.specs.Letter.{Letter, zero as low, same_string, first_or_same}
+use Rattle.law.proofs.Letters.{same_of, same_refl}
+use Rattle.law.proofs.Law.Race.{at, common, lead, keep, Joint, moved, slot, slots, opened, alone, alone_end, Laws}
+use Rattle.law.proofs.Law.Uses.{Tasks, begin_one, begins, task_string, pick, leader, wins, leader_side}
 use Rattle.law.proofs.Law.Order.{rank_inj, at_keep}
 use Rattle.law.proofs.Law.Fates.{next_live, next_side, slots_next, text, gone}
 use Rattle.law.proofs.Law.Wins.{Arbitrated, settled, lexb_anti, most, common_whole}
 use Rattle.law.proofs.Law.Runs.{Run, slots_last, spelled, rank_ends, after_stop}
-
-pub same_of : (t u : List ℕ) → same t u ≡ true → t ≡ u
-same_of t u h = same_text t u (sym h)
-
-same_refl : (t : List ℕ) → same t t ≡ true
-same_refl [] = refl
-same_refl (t ∷ ts) = rw (eq-eqb t t refl) (same_refl ts)
 
 module _ (W : Script) where
   pub at_begins : (l : Tasks W) (i : ℕ) → at (begins W l) i ≡ begin_one W (at l i)
@@ -43,14 +38,14 @@ module _ (W : Script) (D : Side) (left : W.Cursor → ℕ) where
     where
       go : (o : Option W.Task) → leader W D left l s ≡ o → Some (pick W D left p o s) ≡ Some q → ((q : W.Task) → leader W D left l s ≡ Some q → (j : ℕ) × (at l j ≡ Some q)) → (j : ℕ) × (at (Some p ∷ l) j ≡ Some q)
       go None d e ih = (0, e)
-      go (Some r) d e ih = two (lexb (task_string W D left p s) (task_string W D left r s)) e
+      go (Some r) d e ih = two (first_or_same (task_string W D left p s) (task_string W D left r s)) e
         where
           two : (v : Bool) → Some (cond v p r) ≡ Some q → (j : ℕ) × (at (Some p ∷ l) j ≡ Some q)
           two true e = (0, e)
           two false e = let x = ih r d in (suc x.0, x.1 ∙ e)
 
   -- where t is below each string and somebody has it, the leader has it
-  leader_has : (t : List ℕ) (l : Tasks W) (s : D.S) → ((i : ℕ) (p : W.Task) → at l i ≡ Some p → lexb t (task_string W D left p s) ≡ true) →
+  leader_has : (t : List Letter) (l : Tasks W) (s : D.S) → ((i : ℕ) (p : W.Task) → at l i ≡ Some p → first_or_same t (task_string W D left p s) ≡ true) →
       (i : ℕ) (p : W.Task) → at l i ≡ Some p → task_string W D left p s ≡ t → (q : W.Task) × (leader W D left l s ≡ Some q) × (task_string W D left q s ≡ t)
   leader_has t [] s below i p e h = cc
   leader_has t (None ∷ l) s below zero p e h = cc
@@ -64,14 +59,14 @@ module _ (W : Script) (D : Side) (left : W.Cursor → ℕ) where
       go None d = (r, refl, r_has)
       go (Some x) d =
           let j = leader_in l s x d in
-          let b : lexb (task_string W D left r s) (task_string W D left x s) ≡ true = ap (λ u. lexb u (task_string W D left x s)) r_has ∙ below (suc j.0) x j.1 in
+          let b : first_or_same (task_string W D left r s) (task_string W D left x s) ≡ true = ap (λ u. first_or_same u (task_string W D left x s)) r_has ∙ below (suc j.0) x j.1 in
           (r, ap (λ v. Some (cond v r x)) b, r_has)
   leader_has t (Some r ∷ l) s below (suc i) p e h =
       let x = leader_has t l s (λ i p e. below (suc i) p e) i p e h in
-      rw x.1 (two (lexb (task_string W D left r s) (task_string W D left x.0 s)) x.0 refl x.2)
+      rw x.1 (two (first_or_same (task_string W D left r s) (task_string W D left x.0 s)) x.0 refl x.2)
     where
-      two : (v : Bool) (q : W.Task) → lexb (task_string W D left r s) (task_string W D left q s) ≡ v → task_string W D left q s ≡ t → (w : W.Task) × (Some (cond v r q) ≡ Some w) × (task_string W D left w s ≡ t)
-      two true q b h = (r, refl, lexb_anti (task_string W D left r s) t (ap (lexb (task_string W D left r s)) (sym h) ∙ b) (below 0 r refl))
+      two : (v : Bool) (q : W.Task) → first_or_same (task_string W D left r s) (task_string W D left q s) ≡ v → task_string W D left q s ≡ t → (w : W.Task) × (Some (cond v r q) ≡ Some w) × (task_string W D left w s ≡ t)
+      two true q b h = (r, refl, lexb_anti (task_string W D left r s) t (ap (first_or_same (task_string W D left r s)) (sym h) ∙ b) (below 0 r refl))
       two false q b h = (q, refl, h)
 
 module _ (W : Script) (D : Side) where
@@ -127,7 +122,7 @@ module _ (W : Script) (D : Side) (left : W.Cursor → ℕ) (Alike : W.Cursor →
 
   -- l: the contenders, t: the least of their strings
   module _ (l : Tasks W) (s0 : D.S) (k r : ℕ) (ps : List (Option W.Cursor)) (s : D.S) (run : Run W D left Alike (begins W l) s0 k r ps s) where
-    t : List ℕ
+    t : List Letter
     t = text W D (most W D left Alike laws (begins W l)) (begins W l) s0
 
     facts : (i : ℕ) (q : W.Task) → at l i ≡ Some q → Arbitrated W D left (begins W l) s0 t
@@ -160,7 +155,7 @@ module _ (W : Script) (D : Side) (left : W.Cursor → ℕ) (Alike : W.Cursor →
 
     -- who shows more than the least symbol: its string first differs here
     pub loses_at : (i : ℕ) (q : W.Task) (p : W.Cursor) → at l i ≡ Some q → at ps i ≡ Some p → (rank (lead W ps) ≡ rank (W.symbol p) → ⊥) →
-        (x : W.Task) × (leader W D left l s0 ≡ Some x) × First (task_string W D left x s0) (task_string W D left q s0) k
+        (x : W.Task) × (leader W D left l s0 ≡ Some x) × FirstDifference (task_string W D left x s0) (task_string W D left q s0) k
     loses_at i q p a b d =
         let f = facts i q a in
         let u = task_string W D left q s0 in
@@ -177,7 +172,7 @@ module _ (W : Script) (D : Side) (left : W.Cursor → ℕ) (Alike : W.Cursor →
         let g2 : common t u < suc g.0 = leb-false (suc g.0) (common t u) (sym (f.live i (W.begin q) (begun_at W l i q a) (suc g.0) (omega arith)) ∙ g.3) in
         let e : g.0 ≡ k = omega arith in
         let x = led i q a in
-        (x.0, x.1, subst (λ z. First z u k) (sym x.2) (subst (λ z. First t u z) e g.1))
+        (x.0, x.1, subst (λ z. FirstDifference z u k) (sym x.2) (subst (λ z. FirstDifference t u z) e g.1))
       where
         differs : (v : Bool) → eqb (rank (lead W ps)) (rank (W.symbol p)) ≡ v → cond v (Some (W.next p (heard D (lead W ps) s))) None ≡ None
         differs true e = absurd (d (eqb-true (rank (lead W ps)) (rank (W.symbol p)) e))
@@ -185,20 +180,20 @@ module _ (W : Script) (D : Side) (left : W.Cursor → ℕ) (Alike : W.Cursor →
 
     -- who wins, by the strings alone
     pub wins_least : (i : ℕ) (q : W.Task) → at l i ≡ Some q → wins W D left q (leader W D left l s0) s0 ≡ true → (j : ℕ) (p : W.Task) → at l j ≡ Some p →
-        lexb (task_string W D left q s0) (task_string W D left p s0) ≡ true
+        first_or_same (task_string W D left q s0) (task_string W D left p s0) ≡ true
     wins_least i q a h j p b =
         let x = led i q a in
-        let d : same (task_string W D left q s0) (task_string W D left x.0 s0) ≡ true = sym (ap (λ o. wins W D left q o s0) x.1) ∙ h in
-        ap (λ u. lexb u (task_string W D left p s0)) (same_of (task_string W D left q s0) (task_string W D left x.0 s0) d ∙ x.2) ∙ (facts i q a).least j (W.begin p) (begun_at W l j p b)
+        let d : same_string (task_string W D left q s0) (task_string W D left x.0 s0) ≡ true = sym (ap (λ o. wins W D left q o s0) x.1) ∙ h in
+        ap (λ u. first_or_same u (task_string W D left p s0)) (same_of (task_string W D left q s0) (task_string W D left x.0 s0) d ∙ x.2) ∙ (facts i q a).least j (W.begin p) (begun_at W l j p b)
 
-    pub least_wins : (i : ℕ) (q : W.Task) → at l i ≡ Some q → ((j : ℕ) (p : W.Task) → at l j ≡ Some p → lexb (task_string W D left q s0) (task_string W D left p s0) ≡ true) →
+    pub least_wins : (i : ℕ) (q : W.Task) → at l i ≡ Some q → ((j : ℕ) (p : W.Task) → at l j ≡ Some p → first_or_same (task_string W D left q s0) (task_string W D left p s0) ≡ true) →
         wins W D left q (leader W D left l s0) s0 ≡ true
     least_wins i q a h =
         let x = led i q a in
         let j = leader_in W D left l s0 x.0 x.1 in
         let e : task_string W D left q s0 ≡ task_string W D left x.0 s0 = lexb_anti (task_string W D left q s0) (task_string W D left x.0 s0) (h j.0 x.0 j.1)
-        (ap (λ u. lexb u (task_string W D left q s0)) x.2 ∙ (facts i q a).least i (W.begin q) (begun_at W l i q a)) in
-        ap (λ o. wins W D left q o s0) x.1 ∙ ap (λ u. same u (task_string W D left x.0 s0)) e ∙ same_refl (task_string W D left x.0 s0)
+        (ap (λ u. first_or_same u (task_string W D left q s0)) x.2 ∙ (facts i q a).least i (W.begin q) (begun_at W l i q a)) in
+        ap (λ o. wins W D left q o s0) x.1 ∙ ap (λ u. same_string u (task_string W D left x.0 s0)) e ∙ same_refl (task_string W D left x.0 s0)
 
     -- the stop
     module _ (stops : rank (lead W ps) ≡ 1) where
@@ -213,7 +208,7 @@ module _ (W : Script) (D : Side) (left : W.Cursor → ℕ) (Alike : W.Cursor →
       pub stop_wins : (i : ℕ) (q : W.Task) → at l i ≡ Some q → wins W D left q (leader W D left l s0) s0 ≡ is_some (keep W (lead W ps) (heard D (lead W ps) s) (at ps i))
       stop_wins i q a =
           let x = led i q a in
-          ap (λ o. wins W D left q o s0) x.1 ∙ go (is_some (keep W (lead W ps) (heard D (lead W ps) s) (at ps i))) refl (same (task_string W D left q s0) (task_string W D left x.0 s0)) x.0 refl x.2
+          ap (λ o. wins W D left q o s0) x.1 ∙ go (is_some (keep W (lead W ps) (heard D (lead W ps) s) (at ps i))) refl (same_string (task_string W D left q s0) (task_string W D left x.0 s0)) x.0 refl x.2
         where
           f : Arbitrated W D left (begins W l) s0 t
           f = facts i q a
@@ -221,16 +216,16 @@ module _ (W : Script) (D : Side) (left : W.Cursor → ℕ) (Alike : W.Cursor →
           end_at : is_some (at (slots W D (length t) (opened W D (begins W l) s0)).live i) ≡ is_some (keep W (lead W ps) (heard D (lead W ps) s) (at ps i))
           end_at = ap (λ n. is_some (at (slots W D n (opened W D (begins W l) s0)).live i)) (last_slot i q a) ∙ ap is_some (soon_at i)
 
-          go : (v : Bool) → is_some (keep W (lead W ps) (heard D (lead W ps) s) (at ps i)) ≡ v → (w : Bool) (y : W.Task) → same (task_string W D left q s0) (task_string W D left y s0) ≡ w →
+          go : (v : Bool) → is_some (keep W (lead W ps) (heard D (lead W ps) s) (at ps i)) ≡ v → (w : Bool) (y : W.Task) → same_string (task_string W D left q s0) (task_string W D left y s0) ≡ w →
               task_string W D left y s0 ≡ t → w ≡ v
           go true e true y d h = refl
           go false e false y d h = refl
           go true e false y d h =
-              let z : same (task_string W D left q s0) (task_string W D left y s0) ≡ true = ap₂ same (f.won i (W.begin q) (begun_at W l i q a) (end_at ∙ e)) h ∙ same_refl t in
+              let z : same_string (task_string W D left q s0) (task_string W D left y s0) ≡ true = ap₂ same_string (f.won i (W.begin q) (begun_at W l i q a) (end_at ∙ e)) h ∙ same_refl t in
               cc
           go false e true y d h =
               let z : task_string W D left q s0 ≡ t = same_of (task_string W D left q s0) (task_string W D left y s0) d ∙ h in
-              let w : is_some (at (slots W D (length t) (opened W D (begins W l) s0)).live i) ≡ true = f.wins i (W.begin q) (begun_at W l i q a) (λ k p e. ap (λ u. lexb u (alone W D left p s0)) z ∙ f.least k p e) in
+              let w : is_some (at (slots W D (length t) (opened W D (begins W l) s0)).live i) ≡ true = f.wins i (W.begin q) (begun_at W l i q a) (λ k p e. ap (λ u. first_or_same u (alone W D left p s0)) z ∙ f.least k p e) in
               let g = end_at in
               cc
 
@@ -250,7 +245,7 @@ module _ (W : Script) (D : Side) (left : W.Cursor → ℕ) (Alike : W.Cursor →
 
       spelled_take : (i : ℕ) (q : W.Task) → at l i ≡ Some q → (n : ℕ) → n ≤ length t → spelled W D (begins W l) s0 n ≡ take n t
       spelled_take i q a zero h = refl
-      spelled_take i q a (suc n) h = ap₂ (λ x y. x ++ (y ∷ [])) (spelled_take i q a n (omega arith)) ((facts i q a).letters n (omega arith)) ∙ sym (take-suc t n 0 (omega arith))
+      spelled_take i q a (suc n) h = ap₂ (λ x y. x ++ (y ∷ [])) (spelled_take i q a n (omega arith)) ((facts i q a).letters n (omega arith)) ∙ sym (take-suc t n low (omega arith))
 
       -- what was spelled is the least string
       pub stop_spells : (i : ℕ) (q : W.Task) → at l i ≡ Some q → (x : W.Task) × (leader W D left l s0 ≡ Some x) × (spelled W D (begins W l) s0 (suc k) ≡ task_string W D left x s0)

@@ -9,14 +9,14 @@ use Rattle.master.specs.MasterState.{MasterModel, rise_step, new_master}
 use Rattle.master.specs.Script.{Script}
 use Rattle.transfer.specs.Limits.{most_count}
 use Rattle.law.specs.Limits.{ticks_of_turn}
+use Rattle.law.specs.Monitor.{Monitor}
 use Rattle.law.proofs.Sides.{Side}
 use Rattle.law.proofs.Law.Machine.{Bus, tick, tick_event, tick_verdicts}
 use Rattle.law.proofs.Law.Phases.{early_lost, Cell, out, looks, idling, claimed, opened, lowered, released, fresh, settled, Timed, bus, claimed_bus, opened_bus, low_bus, fresh_bus, settled_bus}
 use Rattle.law.proofs.Law.Race.{at, Laws}
-use Rattle.law.proofs.Law.Uses.{Tasks, Hosts, Step, arms, ticks, accepted, count, any, answer_if, armed_if, answer, arm_book, nobody, disarm, Wanted, task_of, armeds, pulling, arm_answer, leader, outcomes, Book, stop_tells, book_tells, feed_stop, feed, Watch, watch, spell, fresh_masters, Use, made, does, uses, Held, ticks_of, Clocks, Law, EveryUse, Plays}
+use Rattle.law.proofs.Law.Uses.{Tasks, Hosts, Step, arms, ticks, accepted, count, any, answer_if, armed_if, answer, arm_book, nobody, disarm, task_of, armeds, pulling, arm_answer, leader, outcomes, Book, stop_tells, book_tells, feed_stop, feed, watch, spell, fresh_masters, Use, made, does, uses, Held, ticks_of, Clocks, Law, EveryUse, Plays}
 use Rattle.law.proofs.Law.Cells.{cell_armeds, Holding, marked, never, pulls_nothing, armeds_looks}
-use Rattle.law.proofs.Law.Stands.{Stands, idle, claims, begun, low, rose, high, fresh_keeps, arm_from, arm_stands}
-use Rattle.law.proofs.Law.Stops.{disarmed}
+use Rattle.law.proofs.Law.Stands.{Stands, idle, claims, begun, low, rose, high, fresh_keeps, arm_stands}
 use Rattle.law.proofs.Law.Steps.{Fine, tick_stands}
 
 count_one : {A : Type 0} (o w : Option A) (os : List (Option A)) → count (armed_if o w ∷ os) ≡ count (o ∷ os) + accepted (answer_if o w)
@@ -42,9 +42,6 @@ nobody_at B [] i = refl
 nobody_at B (o ∷ os) zero = refl
 nobody_at B (o ∷ os) (suc i) = nobody_at B os i
 
-wanted_arm : {A : Type 0} (ws os : List (Option A)) (i : ℕ) → Wanted ws os → Wanted ws (arm_book os ws i)
-wanted_arm ws os i h j t e = elim (arm_from os ws i j t e) [ inl z ↦ h j t z | inr z ↦ z ]
-
 module _ (W : Script) where
   answer_one : (a : Arming W.Task) (w : Option W.Task) → (arming_after_arm a w).0 ≡ answer_if (task_of W a) w
   answer_one a w = grind arith
@@ -63,7 +60,7 @@ module _ (W : Script) where
 
 -- what the invariant says of one point
 module _ (W : Script) (D : Side) (left : W.Cursor → ℕ) (Alike : W.Cursor → W.Cursor → Type 0) (Fits : W.Task → Type 0) (Rest : D.S → Type 0) where
-  stands_armed : (u : Bus W D) (os : Tasks W) (s : D.S) (t : Option (Tasks W)) (w : Watch) (n : ℕ) → Stands W D left Alike Fits Rest u os s t w n → armeds W u.masters ≡ os
+  stands_armed : (u : Bus W D) (os : Tasks W) (s : D.S) (t : Option (Tasks W)) (w : Monitor) (n : ℕ) → Stands W D left Alike Fits Rest u os s t w n → armeds W u.masters ≡ os
   stands_armed _ _ _ _ _ _ (idle u os s w cs e a t g q y) = ap (λ x. armeds W x.masters) e ∙ armeds_looks W (idling W) (λ m p. refl) cs ∙ sym a
   stands_armed _ _ _ _ _ _ (claims u os s l v sp cs e m g q y) = ap (λ x. armeds W x.masters) e ∙ armeds_looks W (claimed W) (λ m p. refl) cs ∙ sym g.armed
   stands_armed _ _ _ _ _ _ (begun u os s l v sp cs k n e b c m g q y) = ap (λ x. armeds W x.masters) e ∙ armeds_looks W (opened W k) (λ m p. refl) cs ∙ sym g.armed
@@ -71,14 +68,14 @@ module _ (W : Script) (D : Side) (left : W.Cursor → ℕ) (Alike : W.Cursor →
   stands_armed _ _ _ _ _ _ (rose u os s0 l v sp cs k r s b n e j c m g q y) = ap (λ x. armeds W x.masters) e ∙ armeds_looks W (fresh W b) (fresh_keeps W b) cs ∙ sym g.armed
   stands_armed _ _ _ _ _ _ (high u os s0 l v sp cs k r s d c f n e j o z m g q y) = ap (λ x. armeds W x.masters) e ∙ armeds_looks W (settled W f) (λ m p. refl) cs ∙ sym g.armed
 
-  stands_side : (u : Bus W D) (os : Tasks W) (s : D.S) (t : Option (Tasks W)) (w : Watch) (n : ℕ) → Stands W D left Alike Fits Rest u os s t w n → u.wire.busy ≡ false → u.side ≡ s
+  stands_side : (u : Bus W D) (os : Tasks W) (s : D.S) (t : Option (Tasks W)) (w : Monitor) (n : ℕ) → Stands W D left Alike Fits Rest u os s t w n → u.wire.busy ≡ false → u.side ≡ s
   stands_side u os s t w n h k = grind arith
 
   outs : (u u' : Bus W D) (f : Symbol → Bool) (g : MasterModel W → W.Cursor → MasterModel W) (each : (m : MasterModel W) (p : W.Cursor) → f (W.symbol p) ≡ true → ((g m p).pulls.scl || (g m p).pulls.sda) ≡ false)
       (l : Tasks W) (cs : List (Cell W)) (v : List Bool) (i : ℕ) → u ≡ u' → u'.masters ≡ looks W g cs → v ≡ marked W f l cs → get_or v i false ≡ true → pulling W u.masters i ≡ false
   outs u u' f g each l cs v i e d m h = ap (λ x. pulling W x.masters i) e ∙ ap (λ x. pulling W x i) d ∙ pulls_nothing W f g each l cs i (sym (ap (λ x. get_or x i false) m) ∙ h)
 
-  stands_out : (u : Bus W D) (os : Tasks W) (s : D.S) (t : Option (Tasks W)) (w : Watch) (n : ℕ) → Stands W D left Alike Fits Rest u os s t w n →
+  stands_out : (u : Bus W D) (os : Tasks W) (s : D.S) (t : Option (Tasks W)) (w : Monitor) (n : ℕ) → Stands W D left Alike Fits Rest u os s t w n →
       is_some t ≡ true → (i : ℕ) → get_or w.marked i false ≡ true → pulling W u.masters i ≡ false
   stands_out _ _ _ _ _ _ (idle u os s w cs e a t g q y) h i k = cc
   stands_out _ _ _ _ _ _ (claims u os s l v sp cs e m g q y) h i k = outs u (claimed_bus W D cs s) never (claimed W) (never_out W (claimed W)) l cs v i e refl m.0 k
@@ -87,7 +84,7 @@ module _ (W : Script) (D : Side) (left : W.Cursor → ℕ) (Alike : W.Cursor →
   stands_out _ _ _ _ _ _ (rose u os s0 l v sp cs k r s b n e j c m g q y) h i z = outs u (fresh_bus W D b cs s) (early_lost b) (fresh W b) (λ m p. rise_out W (released W m p) p (W.symbol p) b) l cs v i e refl m.0 z
   stands_out _ _ _ _ _ _ (high u os s0 l v sp cs k r s d c f n e j o z m g q y) h i x = outs u (settled_bus W D d c cs s f) never (settled W f) (never_out W (settled W f)) l cs v i e refl m.0 x
 
-  stands_left : (u : Bus W D) (os : Tasks W) (s : D.S) (t : Option (Tasks W)) (w : Watch) (n : ℕ) → Stands W D left Alike Fits Rest u os s t w n → n ≤ ticks_of_turn
+  stands_left : (u : Bus W D) (os : Tasks W) (s : D.S) (t : Option (Tasks W)) (w : Monitor) (n : ℕ) → Stands W D left Alike Fits Rest u os s t w n → n ≤ ticks_of_turn
   stands_left u os s t w n h = grind arith
 
 -- the making
@@ -132,7 +129,6 @@ module _ (W : Script) (D : Side) (left : W.Cursor → ℕ) (H : Hosts W) (Alike 
   record Kept (x : Use W D H) (n : ℕ) : Type 0 where
     stands : Stands W D left Alike Fits Rest x.bus x.book.armed x.book.side x.book.turn x.watch n
     hosts : x.hosts ≡ x.book.hosts
-    wanted : Wanted (H.wants x.book.hosts) x.book.armed
     arms : x.arms ≡ x.told + count x.book.armed
 
   made_kept : (cs : List (ℕ × ℕ)) (a : H.State) (s : D.S) → Clocks cs → Rest s → Kept (made W D H cs a s) ticks_of_turn
@@ -140,7 +136,6 @@ module _ (W : Script) (D : Side) (left : W.Cursor → ℕ) (H : Hosts W) (Alike 
     stands = idle (made W D H cs a s).bus (armeds W (fresh_masters W cs)) s (watch 0 false [] (spell None [])) (made_cells W cs) (ap (λ ms. bus W D true true false ms s None 0) (made_looks W cs))
         (made_armeds W cs) (made_timed W cs c) (made_holding W cs) q (λ j t e. nobody_armed j t e);
     hosts = refl;
-    wanted = λ j t e. nobody_armed j t e;
     arms = let z = made_count W cs in omega arith;
   }
     where
@@ -163,22 +158,6 @@ module _ (W : Script) (D : Side) (left : W.Cursor → ℕ) (H : Hosts W) (Alike 
   hears b SteadyHigh = unheard b.hosts b.armed
   hears b SteadyLow = unheard b.hosts b.armed
 
-  -- what an armed master's host wants does not change until it is told
-  wanted_told : (a : H.State) (os : Tasks W) (ts : List (Option W.Outcome)) → Wanted (H.wants a) os → Wanted (H.wants (H.hear a ts)) (disarm os ts)
-  wanted_told a os ts h j t e = let z = disarmed os ts j t e in plays.still_wants a ts j z.1 ∙ h j t z.0
-
-  wanted_stop : (a : H.State) (os : Tasks W) (s : D.S) (t : Option (Tasks W)) → Wanted (H.wants a) os → Wanted (H.wants (feed_stop W D left H a os s t).hosts) (feed_stop W D left H a os s t).armed
-  wanted_stop a os s None h = h
-  wanted_stop a os s (Some l) h = wanted_told a os (outcomes W D left l (leader W D left l (D.begin s)) (D.begin s)) h
-
-  wanted_fed : (b : Book W D H) (e : Event) → Wanted (H.wants b.hosts) b.armed → Wanted (H.wants (feed W D left H b e).hosts) (feed W D left H b e).armed
-  wanted_fed b Stop h = wanted_stop b.hosts b.armed b.side b.turn h
-  wanted_fed b (Rise x) h = h
-  wanted_fed b Fall h = h
-  wanted_fed b Start h = h
-  wanted_fed b SteadyHigh h = h
-  wanted_fed b SteadyLow h = h
-
   fine : (x : Use W D H) (n h : ℕ) → h ≤ most_count → Kept W D left H Alike Fits Rest x n →
       Fine W D left H Alike Fits Rest laws plays x.book.hosts x.book.armed x.book.side x.book.turn x.watch n (tick W D x.bus h) (tick_event W D x.bus) (tick_verdicts W D x.bus)
   fine x n h b k = tick_stands W D left H Alike Fits Rest laws plays x.book.hosts x.bus x.book.armed x.book.side x.book.turn x.watch n h b k.stands
@@ -192,7 +171,6 @@ module _ (W : Script) (D : Side) (left : W.Cursor → ℕ) (H : Hosts W) (Alike 
     stands = subst (λ a. Stands W D left Alike Fits Rest (does W D left H x (arms i)).bus (arm_book x.book.armed (H.wants a) i) x.book.side x.book.turn x.watch n) k.hosts
         (arm_stands W D left Alike Fits Rest (H.wants x.hosts) (plays.wants x.hosts) i x.bus x.book.armed x.book.side x.book.turn x.watch n k.stands);
     hosts = k.hosts;
-    wanted = wanted_arm (H.wants x.book.hosts) x.book.armed i k.wanted;
     arms = let a = ap accepted (answers_as x n i k) in let b = count_arm x.book.armed (H.wants x.book.hosts) i in let c = k.arms in omega arith;
   }
 
@@ -200,7 +178,6 @@ module _ (W : Script) (D : Side) (left : W.Cursor → ℕ) (H : Hosts W) (Alike 
   keeps_tick x n h b k = let f = fine x n h b k in record {
     stands = f.stands;
     hosts = ap₂ H.hear k.hosts f.tells ∙ hears x.book (tick_event W D x.bus);
-    wanted = wanted_fed x.book (tick_event W D x.bus) k.wanted;
     arms = let a = f.counts in let c = ap count f.tells in let d = k.arms in omega arith;
   }
 
@@ -234,7 +211,6 @@ module _ (W : Script) (D : Side) (left : W.Cursor → ℕ) (H : Hosts W) (Alike 
         point = record {
           hosts = k.hosts;
           armed = stands_armed W D left Alike Fits Rest x.bus x.book.armed x.book.side x.book.turn x.watch n st;
-          wanted = k.wanted;
           side = stands_side W D left Alike Fits Rest x.bus x.book.armed x.book.side x.book.turn x.watch n st;
           arms = k.arms;
           out = stands_out W D left Alike Fits Rest x.bus x.book.armed x.book.side x.book.turn x.watch n st;

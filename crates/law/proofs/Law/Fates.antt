@@ -7,46 +7,47 @@ use Rattle.master.specs.declared.symbol.Symbol.TheVariants.{Zero, One, Listen, R
 use Rattle.master.specs.Script.{Script}
 use Rattle.law.proofs.Sides.{Side, ends, letter, heard, after, string, last}
 use Rattle.law.proofs.Law.Phases.{rank}
-use Rattle.law.proofs.Law.Race.{at, common, lexb, lead, keep, keep_all, Joint, moved, slot, slots, opened, Laws}
+use Rattle.law.specs.Letter.{Letter, rank as place, first_or_same}
+use Rattle.law.proofs.Law.Race.{at, common, lead, keep, keep_all, Joint, moved, slot, slots, opened, Laws}
 use Rattle.law.proofs.Law.Lists.{rank_top}
 use Rattle.law.proofs.Law.Order.{rank_inj, top_listens, lead_least, lead_shown, at_keep, Kept, kept}
 
 pub not_end : (x : Symbol) → ends x ≡ false → x ≡ Stop → ⊥
 not_end x e d = cc
 
-pub lexb_same : (a : ℕ) (t u : List ℕ) → lexb (a ∷ t) (a ∷ u) ≡ lexb t u
-lexb_same a t u = rw (eq-eqb a a refl)
+pub lexb_same : (a : Letter) (t u : List Letter) → first_or_same (a ∷ t) (a ∷ u) ≡ first_or_same t u
+lexb_same a t u = rw (eq-eqb (place a) (place a) refl)
 
-pub lexb_less : (a b : ℕ) (t u : List ℕ) → a < b → lexb (a ∷ t) (b ∷ u) ≡ true
-lexb_less a b t u h = rw (ne_eqb a b (λ e. omega arith), lt-ltb a b h)
+pub lexb_less : (a b : Letter) (t u : List Letter) → place a < place b → first_or_same (a ∷ t) (b ∷ u) ≡ true
+lexb_less a b t u h = rw (ne_eqb (place a) (place b) (λ e. omega arith), lt-ltb (place a) (place b) h)
 
-pub common_same : (a : ℕ) (t u : List ℕ) → common (a ∷ t) (a ∷ u) ≡ suc (common t u)
-common_same a t u = rw (eq-eqb a a refl)
+pub common_same : (a : Letter) (t u : List Letter) → common (a ∷ t) (a ∷ u) ≡ suc (common t u)
+common_same a t u = rw (eq-eqb (place a) (place a) refl)
 
-pub common_less : (a b : ℕ) (t u : List ℕ) → a < b → common (a ∷ t) (b ∷ u) ≡ 0
-common_less a b t u h = rw (ne_eqb a b (λ e. omega arith))
+pub common_less : (a b : Letter) (t u : List Letter) → place a < place b → common (a ∷ t) (b ∷ u) ≡ 0
+common_less a b t u h = rw (ne_eqb (place a) (place b) (λ e. omega arith))
 
 module _ (D : Side) where
-  letter_rank : (x : Symbol) (s : D.S) → rank x < 4 → letter D x s ≡ rank x
+  letter_rank : (x : Symbol) (s : D.S) → rank x < 4 → place (letter D x s) ≡ rank x
   letter_rank Zero s h = refl
   letter_rank One s h = refl
   letter_rank Listen s h = absurd (omega arith)
   letter_rank RepeatedStart s h = refl
   letter_rank Stop s h = refl
 
-  pub letter_less : (x y : Symbol) (s : D.S) → rank x < rank y → (y ≡ Listen → x ≡ Listen) → letter D x s < letter D y s
+  pub letter_less : (x y : Symbol) (s : D.S) → rank x < rank y → (y ≡ Listen → x ≡ Listen) → place (letter D x s) < place (letter D y s)
   letter_less x y s h k = elim (cases_lt (rank y) 4) [
     | inl d ↦ omega (arith, letter_rank x s (omega arith), letter_rank y s d)
     | inr d ↦ omega (arith, ap rank (k (top_listens y d)), rank_top y)
   ]
 
 module _ (W : Script) (D : Side) where
-  abbrev pub text : ℕ → List (Option W.Cursor) → D.S → List ℕ
+  abbrev pub text : ℕ → List (Option W.Cursor) → D.S → List Letter
   text zero l s = []
   text (suc n) l s = letter D (lead W l) s ∷ cond (ends (lead W l)) [] (text n (keep_all W (lead W l) (heard D (lead W l) s) l) (after D (lead W l) s))
 
-  pub record Fate (l : List (Option W.Cursor)) (s : D.S) (i : ℕ) (t u : List ℕ) (v : D.S) : Type 0 where
-    pub least : lexb t u ≡ true
+  pub record Fate (l : List (Option W.Cursor)) (s : D.S) (i : ℕ) (t u : List Letter) (v : D.S) : Type 0 where
+    pub least : first_or_same t u ≡ true
     pub live : (k : ℕ) → k ≤ length t → is_some (at (slots W D k (opened W D l s)).live i) ≡ leb k (common t u)
     pub whole : length t ≤ common t u → u ≡ t
     pub side : u ≡ t → (slots W D (length t) (opened W D l s)).side ≡ v
@@ -77,7 +78,7 @@ module _ (W : Script) (D : Side) where
       lives (suc zero) h = rw (common_same (letter D (lead W l) s) [] [], at_keep W (lead W l) (heard D (lead W l) s) l i, a, keeps (lead W l) (heard D (lead W l) s) p e)
       lives (suc (suc k)) h = absurd (omega arith)
 
-  fate_more : (l : List (Option W.Cursor)) (s : D.S) (i : ℕ) (t u : List ℕ) (v : D.S) (p : W.Cursor) → at l i ≡ Some p → ends (lead W l) ≡ false →
+  fate_more : (l : List (Option W.Cursor)) (s : D.S) (i : ℕ) (t u : List Letter) (v : D.S) (p : W.Cursor) → at l i ≡ Some p → ends (lead W l) ≡ false →
       Fate (keep_all W (lead W l) (heard D (lead W l) s) l) (after D (lead W l) s) i t u v →
       Fate l s i (letter D (lead W l) s ∷ t) (letter D (lead W l) s ∷ u) v
   fate_more l s i t u v p a e f = record {
@@ -99,13 +100,13 @@ module _ (W : Script) (D : Side) where
       once true = e
       once false = rw (at_keep W (lead W j.live) (heard D (lead W j.live) j.side) j.live i, e)
 
-  fate_less : (l : List (Option W.Cursor)) (s : D.S) (i : ℕ) (a b : ℕ) (t u : List ℕ) (v : D.S) (p : W.Cursor) → at l i ≡ Some p → a < b → rank (lead W l) < rank (W.symbol p) →
+  fate_less : (l : List (Option W.Cursor)) (s : D.S) (i : ℕ) (a b : Letter) (t u : List Letter) (v : D.S) (p : W.Cursor) → at l i ≡ Some p → place a < place b → rank (lead W l) < rank (W.symbol p) →
       Fate l s i (a ∷ t) (b ∷ u) v
   fate_less l s i a b t u v p e h d = record {
     least = lexb_less a b t u h;
     live = lives;
     whole = λ z. absurd (omega (arith, common_less a b t u h));
-    side = λ z. let y : b ≡ a = cc in absurd (omega arith);
+    side = λ z. let y : b ≡ a = cc in absurd (omega (arith, ap place y));
   }
     where
       out : at (keep_all W (lead W l) (heard D (lead W l) s) l) i ≡ None
@@ -143,7 +144,7 @@ module _ (W : Script) (D : Side) (left : W.Cursor → ℕ) (Alike : W.Cursor →
 
   pub record Behind (l : List (Option W.Cursor)) (s : D.S) (p : W.Cursor) : Type 0 where
     pub places : rank (lead W l) < rank (W.symbol p)
-    pub letters : letter D (lead W l) s < letter D (W.symbol p) s
+    pub letters : place (letter D (lead W l) s) < place (letter D (W.symbol p) s)
 
   pub sorted : (n : ℕ) (l : List (Option W.Cursor)) (s : D.S) → Fair W left Alike n l → (i : ℕ) (p : W.Cursor) → at l i ≡ Some p → (W.symbol p ≡ lead W l) ⊎ Behind l s p
   sorted n l s f i p a = elim (cases_lt (rank (lead W l)) (rank (W.symbol p))) [

@@ -1,10 +1,11 @@
 -- One arbitration, slot by slot, and what each contender would carry alone.
-use Rattle.std.proofs.Common.{◌≡◌, ℕ, zero, suc, ◌<◌, ◌≤◌, Bool, true, false, cond, eqb, ltb, leb, List, [], ◌∷◌, length, get_or, Some, None, Option, map}
+use Rattle.std.proofs.Common.{◌≡◌, ℕ, zero, suc, ◌<◌, ◌≤◌, Bool, false, cond, eqb, leb, List, [], ◌∷◌, get_or, Some, None, Option, map}
 use Rattle.master.specs.declared.symbol.Symbol.{Symbol}
 use Rattle.master.specs.declared.symbol.Symbol.TheVariants.{Listen, Stop}
 use Rattle.master.specs.Script.{Script}
 use Rattle.law.proofs.Sides.{Side, ends, heard, after, string, last, final, QuietFor}
 use Rattle.law.proofs.Law.Phases.{rank}
+use Rattle.law.specs.Letter.{Letter, same_letter}
 
 abbrev pub at : {A : Type 0} → List (Option A) → ℕ → Option A
 at l i = get_or l i None
@@ -13,23 +14,10 @@ abbrev pub lower : Symbol → Symbol → Symbol
 lower x y = cond (leb (rank x) (rank y)) x y
 
 -- the length of the common front of two strings
-abbrev pub common : List ℕ → List ℕ → ℕ
+abbrev pub common : List Letter → List Letter → ℕ
 common [] us = 0
 common (t ∷ ts) [] = 0
-common (t ∷ ts) (u ∷ us) = cond (eqb t u) (suc (common ts us)) 0
-
--- ts comes before us, or is the same
-abbrev pub lexb : List ℕ → List ℕ → Bool
-lexb [] us = true
-lexb (t ∷ ts) [] = false
-lexb (t ∷ ts) (u ∷ us) = cond (eqb t u) (lexb ts us) (ltb t u)
-
--- c is the first index at which u differs from t, and there u is greater
-pub record First (t u : List ℕ) (c : ℕ) : Type 0 where
-  pub in_t : c < length t
-  pub in_u : c < length u
-  pub same : (k : ℕ) → k < c → get_or t k 0 ≡ get_or u k 0
-  pub less : get_or t c 0 < get_or u c 0
+common (t ∷ ts) (u ∷ us) = cond (same_letter t u) (suc (common ts us)) 0
 
 module _ (W : Script) where
   -- the least symbol shown
@@ -70,7 +58,7 @@ module _ (W : Script) (D : Side) where
 
 -- left: how many slots a cursor has left at the most
 module _ (W : Script) (D : Side) (left : W.Cursor → ℕ) where
-  abbrev pub alone : W.Cursor → D.S → List ℕ
+  abbrev pub alone : W.Cursor → D.S → List Letter
   alone p s = string W D (left p) p s
 
   abbrev pub alone_side : W.Cursor → D.S → D.S

@@ -11,7 +11,7 @@ use Rattle.law.specs.Limits.{most_letters}
 use Rattle.law.proofs.Sides.{Side, ends, letter, heard, after}
 use Rattle.law.proofs.Law.Phases.{rank, Cell, out, live, turn, cursor, cursors, some, alive, Every, least, stay_if, stay, advance, carries, Shape}
 use Rattle.law.proofs.Law.Race.{at, lead, keep_all, Joint, slot, slots, opened, Quiet, Laws}
-use Rattle.law.proofs.Law.Uses.{bit_letter}
+use Rattle.law.specs.Letter.{Letter, stop, restart, bit_letter}
 use Rattle.law.proofs.Law.Lists.{rank_top}
 use Rattle.law.proofs.Law.Stays.{alive_least}
 use Rattle.law.proofs.Law.Order.{rank_inj, top_listens, lead_least, lead_shown}
@@ -36,10 +36,10 @@ module _ (D : Side) where
   pub letter_bit : (x : Symbol) (s : D.S) → (rank x ≡ 1 → ⊥) → (rank x ≡ 2 → ⊥) → letter D x s ≡ bit_letter (heard D x s)
   letter_bit x s h k = grind arith
 
-  pub letter_again : (x : Symbol) (s : D.S) → rank x ≡ 2 → letter D x s ≡ 2
+  pub letter_again : (x : Symbol) (s : D.S) → rank x ≡ 2 → letter D x s ≡ restart
   letter_again x s h = grind arith
 
-  pub letter_stop : (x : Symbol) (s : D.S) → rank x ≡ 1 → letter D x s ≡ 1
+  pub letter_stop : (x : Symbol) (s : D.S) → rank x ≡ 1 → letter D x s ≡ stop
   letter_stop x s h = grind arith
 
 pub ends_rank : (x : Symbol) → (rank x ≡ 1 → ⊥) → ends x ≡ false
@@ -85,7 +85,7 @@ module _ (W : Script) (D : Side) where
   slots_last (suc k) j = slots_last k (slot W D j)
 
   -- the letters of the first k slots
-  abbrev pub spelled : List (Option W.Cursor) → D.S → ℕ → List ℕ
+  abbrev pub spelled : List (Option W.Cursor) → D.S → ℕ → List Letter
   spelled l s zero = []
   spelled l s (suc k) = spelled l s k ++ (letter D (lead W (slots W D k (opened W D l s)).live) (slots W D k (opened W D l s)).side ∷ [])
 
@@ -102,7 +102,7 @@ module _ (W : Script) (D : Side) (left : W.Cursor → ℕ) (Alike : W.Cursor →
     pub sums : r + k ≡ most_letters
 
 module _ (W : Script) (D : Side) (left : W.Cursor → ℕ) (Alike : W.Cursor → W.Cursor → Type 0) where
-  pub spells : (l : List (Option W.Cursor)) (s0 : D.S) (k r : ℕ) (ps : List (Option W.Cursor)) (s : D.S) (c : ℕ) → Run W D left Alike l s0 k r ps s → letter D (lead W ps) s ≡ c →
+  pub spells : (l : List (Option W.Cursor)) (s0 : D.S) (k r : ℕ) (ps : List (Option W.Cursor)) (s : D.S) (c : Letter) → Run W D left Alike l s0 k r ps s → letter D (lead W ps) s ≡ c →
       spelled W D l s0 k ++ (c ∷ []) ≡ spelled W D l s0 (suc k)
   spells l s0 k r ps s c h e = grind arith
 

@@ -5,11 +5,12 @@ use Rattle.master.specs.Script.{Script}
 use Rattle.master.specs.Symbol.{pulls_sda}
 use Rattle.transfer.specs.Limits.{most_count}
 use Rattle.law.specs.Limits.{most_letters, ticks_of_low, ticks_of_letter, ticks_of_turn}
+use Rattle.law.specs.Monitor.{Monitor}
 use Rattle.law.proofs.Sides.{Side}
 use Rattle.law.proofs.Law.Machine.{taken, Bus}
 use Rattle.law.proofs.Law.Phases.{holds, early_lost, Cell, looks, cursors, idling, claimed, opened, lowered, fresh, settled, some, alive, Timed, advance, bus, free_bus, claimed_bus, opened_bus, low_bus, fresh_bus, settled_bus, carries}
 use Rattle.law.proofs.Law.Race.{at, slots, opened as opens_at}
-use Rattle.law.proofs.Law.Uses.{Tasks, armed_if, arm_book, begins, Spell, spell, fallen, Watch, watch, arm_bus}
+use Rattle.law.proofs.Law.Uses.{Tasks, armed_if, arm_book, begins, Spell, spell, fallen, watch, arm_bus}
 use Rattle.law.proofs.Law.Cells.{cell_armeds, Holding, Within, marked, never, arm_cells, arm_looks, arm_armeds, arm_timed, arm_holding, arm_within, arm_some, arm_cursors, arm_marked, arm_advance}
 use Rattle.law.proofs.Law.Runs.{Run, spelled}
 
@@ -42,8 +43,8 @@ module _ (W : Script) (D : Side) (Fits : W.Task → Type 0) (Rest : D.S → Type
 
 module _ (W : Script) (D : Side) (left : W.Cursor → ℕ) (Alike : W.Cursor → W.Cursor → Type 0) (Fits : W.Task → Type 0) (Rest : D.S → Type 0) where
   -- a bus u beside a book with the armed os, the side s at rest and the open turn; the watch; and how many ticks are left at the most until an outcome is told
-  pub data Stands : Bus W D → Tasks W → D.S → Option (Tasks W) → Watch → ℕ → Type 0 where
-    idle : (u : Bus W D) (os : Tasks W) (s : D.S) (w : Watch) (cs : List (Cell W)) →
+  pub data Stands : Bus W D → Tasks W → D.S → Option (Tasks W) → Monitor → ℕ → Type 0 where
+    idle : (u : Bus W D) (os : Tasks W) (s : D.S) (w : Monitor) (cs : List (Cell W)) →
         u ≡ free_bus W D cs s → os ≡ cell_armeds W cs → Timed W cs → Holding W cs → Rest s → Ready Fits os →
         Stands u os s None w ticks_of_turn
     claims : (u : Bus W D) (os : Tasks W) (s : D.S) (l : Tasks W) (v : List Bool) (sp : Spell) (cs : List (Cell W)) →
@@ -112,7 +113,7 @@ module _ (W : Script) (D : Side) (left : W.Cursor → ℕ) (Alike : W.Cursor →
   arm_run l s0 k r cs s g = subst (λ ps. Run W D left Alike l s0 k r ps s) (sym (arm_cursors W cs ws i)) g
 
   -- an arm in any phase
-  pub arm_stands : (u : Bus W D) (os : Tasks W) (s : D.S) (t : Option (Tasks W)) (w : Watch) (n : ℕ) → Stands W D left Alike Fits Rest u os s t w n →
+  pub arm_stands : (u : Bus W D) (os : Tasks W) (s : D.S) (t : Option (Tasks W)) (w : Monitor) (n : ℕ) → Stands W D left Alike Fits Rest u os s t w n →
       Stands W D left Alike Fits Rest (arm_bus W D u ws i) (arm_book os ws i) s t w n
   arm_stands _ _ _ _ _ _ (idle u os s w cs e a t g q y) =
       idle (arm_bus W D u ws i) (arm_book os ws i) s w (arm_cells W cs ws i)

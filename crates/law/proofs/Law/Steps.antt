@@ -1,5 +1,5 @@
 -- A tick keeps the invariant, tells whom the book tells, marks whom it may, and brings an outcome nearer.
-use Rattle.std.proofs.Common.{◌≡◌, ℕ, zero, suc, ◌+◌, ◌-◌, ◌*◌, ◌<◌, ◌≤◌, Bool, true, false, cond, not, ◌||◌, eqb, ◌⊎◌, List, [], ◌∷◌, ◌++◌, get_or, is_some, Some, None, Option, unwrap_or, sym, refl, ap, ◌∙◌, subst, ap₂, inl, inr, arith}
+use Rattle.std.proofs.Common.{◌≡◌, ℕ, zero, suc, ◌+◌, ◌-◌, ◌*◌, ◌<◌, ◌≤◌, Bool, true, false, cond, not, ◌||◌, eqb, ◌⊎◌, List, [], ◌∷◌, ◌++◌, get_or, is_some, Some, None, Option, unwrap_or, sym, refl, ap, ◌∙◌, subst, ap₂, inl, inr, append-nil, arith}
 use Rattle.std.proofs.lemmas.Bool.Decides.{nat_tests as tells}
 use Rattle.std.proofs.lemmas.Bool.{cases_lt}
 use Rattle.master.specs.declared.symbol.Symbol.{Symbol}
@@ -12,11 +12,13 @@ use Rattle.wire.specs.Event.{event_between}
 use Rattle.wire.specs.Latch.{counted_bit}
 use Rattle.transfer.specs.Limits.{most_count}
 use Rattle.law.specs.Limits.{most_letters, ticks_of_low, ticks_of_letter, ticks_of_turn}
+use Rattle.law.specs.Letter.{stop, restart, bit_letter}
+use Rattle.law.specs.Monitor.{Monitor}
 use Rattle.law.proofs.Sides.{Side, heard}
 use Rattle.law.proofs.Law.Machine.{any_scl, verdicts, asked, taken, Bus, tick, tick_event, said, tick_verdicts}
 use Rattle.law.proofs.Law.Phases.{lines, shown, rank, holds, early_lost, late_lost, Cell, looks, notes, no_verdict, early, late, cursors, opened, settled, some, Every, Timed, least, stay, advance, finished, claim_all, free_bus, claimed_bus, opened_bus, low_bus, fresh_bus, settled_bus, carries, held, Shape}
 use Rattle.law.proofs.Law.Race.{at, lead, Quiet, Laws}
-use Rattle.law.proofs.Law.Uses.{Tasks, Hosts, count, any, nobody, disarm, is_lost, telling, tellings, begins, leader, wins, outcomes, leader_side, book, feed, book_tells, Spell, spell, bit_letter, fallen, Watch, watch, falses, marks_too, turned, noted, sees, Loses, Stopped, Spelled, Plays}
+use Rattle.law.proofs.Law.Uses.{Tasks, Hosts, count, any, nobody, disarm, is_lost, telling, tellings, begins, leader, wins, outcomes, leader_side, book, feed, book_tells, Spell, spell, fallen, watch, falses, marks_too, turned, noted, sees, Loses, Stopped, Spelled, Plays}
 use Rattle.law.proofs.Law.Lists.{rank_top, every, least_below, via_verdicts}
 use Rattle.law.proofs.Law.Lows.{low_stays, low_rises, low_ends}
 use Rattle.law.proofs.Law.Highs.{opened_stays, opened_falls, opened_ends, settled_stays, settled_falls, settled_ends}
@@ -143,7 +145,7 @@ module _ (D : Side) where
 
 module _ (W : Script) (D : Side) (left : W.Cursor → ℕ) (H : Hosts W) (Alike : W.Cursor → W.Cursor → Type 0) (Fits : W.Task → Type 0) (Rest : D.S → Type 0) (laws : Laws W left Alike) (plays : Plays W D left H Alike Fits Rest) where
   -- what a tick to the bus u with the event e and the verdicts ks does; due: how many ticks are then left at the most until an outcome is told
-  pub record Fine (hs : H.State) (os : Tasks W) (s : D.S) (t : Option (Tasks W)) (w : Watch) (n : ℕ) (u : Bus W D) (e : Event) (ks : List (VerdictModel W)) : Type 0 where
+  pub record Fine (hs : H.State) (os : Tasks W) (s : D.S) (t : Option (Tasks W)) (w : Monitor) (n : ℕ) (u : Bus W D) (e : Event) (ks : List (VerdictModel W)) : Type 0 where
     pub due : ℕ
     pub stands : Stands W D left Alike Fits Rest u (feed W D left H (book W D H hs os s t) e).armed (feed W D left H (book W D H hs os s t) e).side (feed W D left H (book W D H hs os s t) e).turn
         (sees W w os t e ks) due
@@ -151,17 +153,17 @@ module _ (W : Script) (D : Side) (left : W.Cursor → ℕ) (H : Hosts W) (Alike 
     pub counts : count (feed W D left H (book W D H hs os s t) e).armed + count (book_tells W D left H (book W D H hs os s t) e) ≡ count os
     pub loses : (i : ℕ) → get_or ks i quiet ≡ lost → Loses W D left t s w.marked (turned W w os t e) i
     pub stops : e ≡ Stop → (l : Tasks W) → t ≡ Some l → (i : ℕ) (p : W.Task) → at l i ≡ Some p → Stopped W D left l s w.marked (tellings W ks) i p
-    pub spelled : e ≡ Stop → (l : Tasks W) → t ≡ Some l → Spelled W D left l s (turned W w os t e).spelling.letters
+    pub spelled : e ≡ Stop → (l : Tasks W) → t ≡ Some l → Spelled W D left l s (turned W w os t e).spelled
     pub falls : (1 ≤ count (book_tells W D left H (book W D H hs os s t) e)) ⊎ (((due < n) × ((feed W D left H (book W D H hs os s t) e).armed ≡ os)) ⊎ (any os ≡ false))
 
   -- by what the tick is known to be
-  by_tick : (hs : H.State) (u : Bus W D) (os : Tasks W) (s : D.S) (t : Option (Tasks W)) (w : Watch) (n h : ℕ) (u' : Bus W D) (ks : List (VerdictModel W)) →
+  by_tick : (hs : H.State) (u : Bus W D) (os : Tasks W) (s : D.S) (t : Option (Tasks W)) (w : Monitor) (n h : ℕ) (u' : Bus W D) (ks : List (VerdictModel W)) →
       tick W D u h ≡ u' → tick_verdicts W D u ≡ ks → Fine hs os s t w n u' (event_between u.wire.last u'.wire.last) ks → Fine hs os s t w n (tick W D u h) (tick_event W D u) (tick_verdicts W D u)
   by_tick hs u os s t w n h u' ks a b f =
       subst (λ x. Fine hs os s t w n (tick W D u h) (tick_event W D u) x) (sym b) (subst (λ x. Fine hs os s t w n x (event_between u.wire.last x.wire.last) ks) (sym a) f)
 
   -- a tick that tells nobody
-  silent : (hs : H.State) (os : Tasks W) (s : D.S) (t t' : Option (Tasks W)) (w w' : Watch) (n n' : ℕ) (u : Bus W D) (e : Event) (ks : List (VerdictModel W)) →
+  silent : (hs : H.State) (os : Tasks W) (s : D.S) (t t' : Option (Tasks W)) (w w' : Monitor) (n n' : ℕ) (u : Bus W D) (e : Event) (ks : List (VerdictModel W)) →
       feed W D left H (book W D H hs os s t) e ≡ book W D H hs os s t' → book_tells W D left H (book W D H hs os s t) e ≡ nobody os → (e ≡ Stop → ⊥) → sees W w os t e ks ≡ w' →
       tellings W ks ≡ nobody os → ((i : ℕ) → get_or ks i quiet ≡ lost → Loses W D left t s w.marked (turned W w os t e) i) →
       (n' < n) ⊎ (any os ≡ false) → Stands W D left Alike Fits Rest u os s t' w' n' → Fine hs os s t w n u e ks
@@ -176,14 +178,14 @@ module _ (W : Script) (D : Side) (left : W.Cursor → ℕ) (H : Hosts W) (Alike 
     falls = inr (elim fs [ inl z ↦ inl (z, ap (λ b. b.armed) fe) | inr z ↦ inr z ]);
   }
 
-  no_loses : (t : Option (Tasks W)) (s : D.S) (v : List Bool) (w : Watch) (cs : List (Cell W)) (i : ℕ) → get_or (notes W (no_verdict W) cs) i quiet ≡ lost → Loses W D left t s v w i
+  no_loses : (t : Option (Tasks W)) (s : D.S) (v : List Bool) (w : Monitor) (cs : List (Cell W)) (i : ℕ) → get_or (notes W (no_verdict W) cs) i quiet ≡ lost → Loses W D left t s v w i
   no_loses t s v w cs i h = let a = note_at W (no_verdict W) cs i h in let b : ◌≡◌ {A = VerdictModel W} quiet lost = a.2 in cc
 
-  abbrev pub Real : H.State → Bus W D → Tasks W → D.S → Option (Tasks W) → Watch → ℕ → ℕ → Type 0
+  abbrev pub Real : H.State → Bus W D → Tasks W → D.S → Option (Tasks W) → Monitor → ℕ → ℕ → Type 0
   Real hs u os s t w n h = Fine hs os s t w n (tick W D u h) (tick_event W D u) (tick_verdicts W D u)
 
   -- a tick with no verdict
-  plain : (hs : H.State) (u : Bus W D) (cs : List (Cell W)) (os : Tasks W) (s : D.S) (t t' : Option (Tasks W)) (w w' : Watch) (n n' h : ℕ) (u' : Bus W D) (e : Event) →
+  plain : (hs : H.State) (u : Bus W D) (cs : List (Cell W)) (os : Tasks W) (s : D.S) (t t' : Option (Tasks W)) (w w' : Monitor) (n n' h : ℕ) (u' : Bus W D) (e : Event) →
       os ≡ cell_armeds W cs → tick W D u h ≡ u' → event_between u.wire.last u'.wire.last ≡ e → said W D u u'.wire.last ≡ notes W (no_verdict W) cs →
       feed W D left H (book W D H hs os s t) e ≡ book W D H hs os s t' → book_tells W D left H (book W D H hs os s t) e ≡ nobody os → (e ≡ Stop → ⊥) → noted W (turned W w os t e) (notes W (no_verdict W) cs) ≡ w' →
       (n' < n) ⊎ (any os ≡ false) → Stands W D left Alike Fits Rest u' os s t' w' n' → Real hs u os s t w n h
@@ -215,7 +217,7 @@ module _ (W : Script) (D : Side) (left : W.Cursor → ℕ) (H : Hosts W) (Alike 
       silent_side : (i : ℕ) (p : W.Cursor) → at (begins W os) i ≡ Some p → Quiet W D p (D.begin s)
       silent_side i p e = let t = task_at W os i p e in subst (λ x. Quiet W D x (D.begin s)) t.2 (plays.quiet t.0 s (y i t.0 t.1) q)
 
-  tick_idle : (hs : H.State) (os : Tasks W) (s : D.S) (w : Watch) (cs : List (Cell W)) (h : ℕ) → os ≡ cell_armeds W cs → Timed W cs → Holding W cs → Rest s → Ready Fits os → Real hs (free_bus W D cs s) os s None w ticks_of_turn h
+  tick_idle : (hs : H.State) (os : Tasks W) (s : D.S) (w : Monitor) (cs : List (Cell W)) (h : ℕ) → os ≡ cell_armeds W cs → Timed W cs → Holding W cs → Rest s → Ready Fits os → Real hs (free_bus W D cs s) os s None w ticks_of_turn h
   tick_idle hs os s w cs h a t g q y = go (any os) refl
     where
       goes : tick W D (free_bus W D cs s) h ≡ claimed_bus W D (claim_all W cs) s
@@ -409,22 +411,22 @@ module _ (W : Script) (D : Side) (left : W.Cursor → ℕ) (H : Hosts W) (Alike 
       let ks = notes W (late W 2) cs in
       let hr = holds_restart W cs e in
       by_tick hs u os s0 (Some l) (watch (suc k) true v sp) n h u' ks q f
-      (silent hs os s0 (Some l) (Some l) (watch (suc k) true v sp) (watch (suc k) true (marked W never l (stay W 2 cs)) (spell None (sp.letters ++ (2 ∷ [])))) n (n - 1) u' Start ks
-      refl refl start_no (ap (λ x. watch (suc k) true x (spell None (sp.letters ++ (2 ∷ [])))) (ap (λ x. marks_too W x ks) m.0
+      (silent hs os s0 (Some l) (Some l) (watch (suc k) true v sp) (watch (suc k) true (marked W never l (stay W 2 cs)) (spell None (sp.letters ++ (restart ∷ [])))) n (n - 1) u' Start ks
+      refl refl start_no (ap (λ x. watch (suc k) true x (spell None (sp.letters ++ (restart ∷ [])))) (ap (λ x. marks_too W x ks) m.0
       ∙ marked_more W (early_lost true) (late_lost 2) (late W 2) (late_is W 2) l cs g.within ∙ marked_stay W (λ x. early_lost true x || late_lost 2 x) 2 l cs ev))
       (tells_none W (late W 2) (late_mute W 2 (omega arith)) cs ∙ ap nobody (sym g.armed))
-      (loses_here (spell None (sp.letters ++ (2 ∷ []))) s0 l os v (early_lost true) (late_lost 2) (late W 2) (late_is W 2) cs k (suc r) s m.0 g run (λ x a. late_new 2 x true (λ p. refl) a)
+      (loses_here (spell None (sp.letters ++ (restart ∷ []))) s0 l os v (early_lost true) (late_lost 2) (late W 2) (late_is W 2) cs k (suc r) s m.0 g run (λ x a. late_new 2 x true (λ p. refl) a)
       (λ x a p. late_behind 2 x a (ap rank p ∙ leads W cs g.living ∙ e)))
       (inl (omega arith))
-      (high u' os s0 l (marked W never l (stay W 2 cs)) (spell None (sp.letters ++ (2 ∷ []))) (stay W 2 cs) k r (D.begin s) false None 0 (n - 1) refl (ap (λ x. not (x || D.pulls (D.begin s))) hr)
+      (high u' os s0 l (marked W never l (stay W 2 cs)) (spell None (sp.letters ++ (restart ∷ []))) (stay W 2 cs) k r (D.begin s) false None 0 (n - 1) refl (ap (λ x. not (x || D.pulls (D.begin s))) hr)
       (omega arith) (omega arith) (
         refl,
-        ap (λ x. spell None (x.letters ++ (2 ∷ []))) m.1 ∙ ap (spell None) (spells W D left Alike (begins W l) (D.begin s0) k (suc r) (cursors W cs) s 2 run
+        ap (spell None) (append-nil (sp.letters ++ (restart ∷ []))) ∙ ap (λ x. spell None (x.letters ++ (restart ∷ []))) m.1 ∙ ap (spell None) (spells W D left Alike (begins W l) (D.begin s0) k (suc r) (cursors W cs) s restart run
             (letter_again D (lead W (cursors W cs)) s (leads W cs g.living ∙ e))),
         record {
           slots_gone = suc k;
           most = omega arith;
-          letters = ap (λ x. x.letters ++ (2 ∷ [])) m.1 ∙ spells W D left Alike (begins W l) (D.begin s0) k (suc r) (cursors W cs) s 2 run
+          letters = ap (λ x. x.letters ++ (restart ∷ [])) m.1 ∙ spells W D left Alike (begins W l) (D.begin s0) k (suc r) (cursors W cs) s restart run
               (letter_again D (lead W (cursors W cs)) s (leads W cs g.living ∙ e));
           side = ap (λ x. x.side) (run_again W D left Alike laws (begins W l) (D.begin s0) k r cs s run g.living e).runs;
         },
@@ -457,7 +459,7 @@ module _ (W : Script) (D : Side) (left : W.Cursor → ℕ) (H : Hosts W) (Alike 
         stops = λ st l' el i p a.
             let z : l ≡ l' = cc in
             subst (λ x. Stopped W D left x s0 v (tellings W (notes W (late W 1) cs)) i p) z (stopped i p (ap (λ x. at x i) z ∙ a));
-        spelled = λ st l' el. let z : l ≡ l' = cc in subst (λ x. Spelled W D left x s0 (sp.letters ++ (1 ∷ []))) z spells_all;
+        spelled = λ st l' el. let z : l ≡ l' = cc in subst (λ x. Spelled W D left x s0 (sp.letters ++ (stop ∷ []))) z spells_all;
         falls = inl (let c = somebody_told W cs e in let d = ap count told_is in omega arith);
       })
     where
@@ -488,7 +490,7 @@ module _ (W : Script) (D : Side) (left : W.Cursor → ℕ) (H : Hosts W) (Alike 
           let j = leader_in W D left l (D.begin s0) x.0 x.1 in
           subst (λ o. Rest (leader_side W D left o (D.begin s0))) (sym x.1) (plays.rests x.0 s0 (y.turn j.0 x.0 j.1) y.rest)
 
-      spells_all : Spelled W D left l s0 (sp.letters ++ (1 ∷ []))
+      spells_all : Spelled W D left l s0 (sp.letters ++ (stop ∷ []))
       spells_all =
           let a = alive_at W cs g.living in
           let b = contender W l cs g.within a.0 a.1.0 a.1.1 in
@@ -496,7 +498,7 @@ module _ (W : Script) (D : Side) (left : W.Cursor → ℕ) (H : Hosts W) (Alike 
           record {
             least = x.0;
             leads = x.1;
-            whole = ap (λ x. x.letters ++ (1 ∷ [])) m.1 ∙ spells W D left Alike (begins W l) (D.begin s0) k r (cursors W cs) s 1 run
+            whole = ap (λ x. x.letters ++ (stop ∷ [])) m.1 ∙ spells W D left Alike (begins W l) (D.begin s0) k r (cursors W cs) s stop run
                 (letter_stop D (lead W (cursors W cs)) s stops_here) ∙ x.2;
           }
 
@@ -546,7 +548,7 @@ module _ (W : Script) (D : Side) (left : W.Cursor → ℕ) (H : Hosts W) (Alike 
   tick_rises hs os s0 l v sp cs k r s b n h (suc (suc (suc (suc (suc j))))) e j4 c z m g run y q = absurd (omega arith)
 
   -- a tick in any phase
-  pub tick_stands : (hs : H.State) (u : Bus W D) (os : Tasks W) (s : D.S) (t : Option (Tasks W)) (w : Watch) (n h : ℕ) → h ≤ most_count → Stands W D left Alike Fits Rest u os s t w n → Real hs u os s t w n h
+  pub tick_stands : (hs : H.State) (u : Bus W D) (os : Tasks W) (s : D.S) (t : Option (Tasks W)) (w : Monitor) (n h : ℕ) → h ≤ most_count → Stands W D left Alike Fits Rest u os s t w n → Real hs u os s t w n h
   tick_stands hs _ _ _ _ _ _ h hh (idle u os s w cs e a t g q y) = subst (λ x. Real hs x os s None w ticks_of_turn h) (sym e) (tick_idle hs os s w cs h a t g q y)
   tick_stands hs _ _ _ _ _ _ h hh (claims u os s l v sp cs e m g q y) = subst (λ x. Real hs x os s (Some l) (watch 0 false v sp) (ticks_of_turn - 1) h) (sym e) (tick_claims hs os s l v sp cs h m g q y)
   tick_stands hs _ _ _ _ _ _ h hh (begun u os s l v sp cs k n e b c m g q y) = subst (λ x. Real hs x os s (Some l) (watch 0 false v sp) n h) (sym e) (tick_begun hs os s l v sp cs k n h b c m g q y)

@@ -3,11 +3,13 @@ use Rattle.std.proofs.Common.{◌≡◌, ℕ, zero, suc, ◌≤◌, Bool, true, 
 use Rattle.std.proofs.lemmas.Bool.{cases_Bool, eqb-true}
 use Rattle.master.specs.declared.symbol.Symbol.{Symbol}
 use Rattle.master.specs.Script.{Script}
+use Rattle.law.specs.Monitor.{Monitor}
 use Rattle.law.proofs.Sides.{Side, ends, letter, heard, after, string, last}
+use Rattle.law.specs.Letter.{Letter}
 use Rattle.law.proofs.Law.Machine.{taken, Bus}
 use Rattle.law.proofs.Law.Phases.{rank, early_lost, Cell, out, live, advance, cursors, alive}
 use Rattle.law.proofs.Law.Race.{at, lead, keep, slot, slots, opened}
-use Rattle.law.proofs.Law.Uses.{Tasks, begins, Watch, watch}
+use Rattle.law.proofs.Law.Uses.{Tasks, begins, watch}
 use Rattle.law.proofs.Law.Order.{rank_inj, at_keep}
 use Rattle.law.proofs.Law.Fates.{next_live, next_side, slots_next, gone}
 use Rattle.law.proofs.Law.Runs.{Run, spelled, alive_at}
@@ -15,7 +17,7 @@ use Rattle.law.proofs.Law.Cells.{Within, marked, never}
 use Rattle.law.proofs.Law.Contests.{over_later, begun_at}
 use Rattle.law.proofs.Law.Stands.{Stands, idle, claims, begun, low, rose, high}
 
-one_longer : (ts : List ℕ) (t : ℕ) → length (ts ++ (t ∷ [])) ≡ suc (length ts)
+one_longer : (ts : List Letter) (t : Letter) → length (ts ++ (t ∷ [])) ≡ suc (length ts)
 one_longer [] t = refl
 one_longer (u ∷ ts) t = ap suc (one_longer ts t)
 
@@ -119,25 +121,25 @@ module _ (W : Script) where
 
 module _ (W : Script) (D : Side) where
   -- what task q did alone from the side s, so far
-  pub record SoFar (u : Bus W D) (s : D.S) (w : Watch) (q : W.Task) : Type 0 where
+  pub record SoFar (u : Bus W D) (s : D.S) (w : Monitor) (q : W.Task) : Type 0 where
     pub slots_gone : ℕ
-    pub letters : w.spelling.letters ≡ string W D slots_gone (W.begin q) (D.begin s)
-    pub many : length w.spelling.letters ≡ slots_gone
+    pub letters : w.spelled ≡ string W D slots_gone (W.begin q) (D.begin s)
+    pub many : length w.spelled ≡ slots_gone
     pub side : u.side ≡ last W D slots_gone (W.begin q) (D.begin s)
 
   -- before the first letter nothing is said
-  abbrev pub ForNow : Bus W D → D.S → Watch → W.Task → Type 0
-  ForNow u s w q = (w.spelling.letters ≡ []) ⊎ SoFar u s w q
+  abbrev pub ForNow : Bus W D → D.S → Monitor → W.Task → Type 0
+  ForNow u s w q = (w.spelled ≡ []) ⊎ SoFar u s w q
 
 module _ (W : Script) (D : Side) (left : W.Cursor → ℕ) (Alike : W.Cursor → W.Cursor → Type 0) (Fits : W.Task → Type 0) (Rest : D.S → Type 0) where
   -- k slots, where n are gone
-  so_far : (u : Bus W D) (s0 : D.S) (w : Watch) (l : Tasks W) (i : ℕ) (x : W.Task) (k n r : ℕ) (ps : List (Option W.Cursor)) (s : D.S) (p : W.Cursor) → k ≤ n → Run W D left Alike (begins W l) (D.begin s0) n r ps s →
-      at l i ≡ Some x → at ps i ≡ Some p → w.spelling.letters ≡ spelled W D (begins W l) (D.begin s0) k → u.side ≡ (slots W D k (opened W D (begins W l) (D.begin s0))).side → ForNow W D u s0 w x
+  so_far : (u : Bus W D) (s0 : D.S) (w : Monitor) (l : Tasks W) (i : ℕ) (x : W.Task) (k n r : ℕ) (ps : List (Option W.Cursor)) (s : D.S) (p : W.Cursor) → k ≤ n → Run W D left Alike (begins W l) (D.begin s0) n r ps s →
+      at l i ≡ Some x → at ps i ≡ Some p → w.spelled ≡ spelled W D (begins W l) (D.begin s0) k → u.side ≡ (slots W D k (opened W D (begins W l) (D.begin s0))).side → ForNow W D u s0 w x
   so_far u s0 w l i x k n r ps s p e q here c b d =
       let a = as_alone W D k n (begins W l) (D.begin s0) i (W.begin x) p e (begun_at W l i x here) (ap (λ z. z.over) q.runs) (ap (λ z. at z.live i) q.runs ∙ c) in
       inr (record { slots_gone = k; letters = b ∙ sym a.1; many = ap length b ∙ spelled_long W D k (begins W l) (D.begin s0); side = d ∙ sym a.0 })
 
-  pub carried_so_far : (u : Bus W D) (os : Tasks W) (s : D.S) (t : Option (Tasks W)) (w : Watch) (n : ℕ) → Stands W D left Alike Fits Rest u os s t w n →
+  pub carried_so_far : (u : Bus W D) (os : Tasks W) (s : D.S) (t : Option (Tasks W)) (w : Monitor) (n : ℕ) → Stands W D left Alike Fits Rest u os s t w n →
       (l : Tasks W) → t ≡ Some l → (i : ℕ) (q : W.Task) → at l i ≡ Some q → StillIn W w.marked l i → ForNow W D u s w q
   carried_so_far _ _ _ _ _ _ (idle u os s w cs e a t g q y) l f i x b c = cc
   carried_so_far _ _ _ _ _ _ (claims u os s l v sp cs e m g q y) l' f i x b c = inl (ap (λ z. z.letters) m.1)

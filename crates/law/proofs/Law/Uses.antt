@@ -1,6 +1,5 @@
 -- Every use of a bus: the bus with its hosts, the book beside it, and what a watcher of the ticks notes.
-use Rattle.std.proofs.Common.{◌≡◌, ℕ, zero, suc, ◌+◌, ◌<◌, ◌≤◌, Bool, true, false, cond, not, ◌||◌, eqb, List, [], ◌∷◌, ◌++◌, get_or, is_some, Some, None, Ok, Err, Option, Result, map}
-use Rattle.std.specs.Cmp.Lexicographic.{pointwise}
+use Rattle.std.proofs.Common.{◌≡◌, ℕ, zero, suc, ◌+◌, ◌<◌, ◌≤◌, Bool, true, false, cond, not, ◌||◌, List, [], ◌∷◌, ◌++◌, get_or, is_some, Some, None, Ok, Err, Option, Result, map}
 use Rattle.std.specs.List.{list_any}
 use Rattle.std.specs.Option.{option_map}
 use Rattle.wire.specs.declared.event.Event.{Event}
@@ -14,7 +13,10 @@ use Rattle.transfer.specs.Limits.{most_count}
 use Rattle.law.specs.Limits.{most_letters, most_ticks_of_turn}
 use Rattle.law.proofs.Sides.{Side}
 use Rattle.law.proofs.Law.Machine.{Bus, tick, tick_event, tick_verdicts}
-use Rattle.law.proofs.Law.Race.{at, lexb, First, Quiet, alone, alone_side, alone_end}
+use Rattle.law.specs.Monitor.{Monitor, letters_of_bit, monitor_after_event as sees_event}
+use Rattle.law.specs.Law.{FirstDifference}
+use Rattle.law.specs.Letter.{Letter, stop, restart, bit_letter, same_string, first_or_same}
+use Rattle.law.proofs.Law.Race.{at, Quiet, alone, alone_side, alone_end}
 
 -- for each master a task, or none
 abbrev pub Tasks : Script → Type 0
@@ -38,9 +40,6 @@ Answer = Result (Unit {0}) ℕ
 abbrev pub accepted : Answer → ℕ
 accepted (Ok x) = 1
 accepted (Err n) = 0
-
-abbrev pub same : List ℕ → List ℕ → Bool
-same ts us = pointwise eqb ts us
 
 -- how many are there
 abbrev pub count : {A : Type 0} → List (Option A) → ℕ
@@ -84,10 +83,6 @@ abbrev pub disarm : {A B : Type 0} → List (Option A) → List (Option B) → L
 disarm [] ts = []
 disarm (o ∷ os) [] = o ∷ os
 disarm (o ∷ os) (t ∷ ts) = disarm_one o t ∷ disarm os ts
-
--- each armed task is what its host wants
-abbrev pub Wanted : {A : Type 0} → List (Option A) → List (Option A) → Type 0
-Wanted {A} ws os = (i : ℕ) (t : A) → at os i ≡ Some t → at ws i ≡ Some t
 
 module _ (W : Script) where
   abbrev pub task_of : Arming W.Task → Option W.Task
@@ -137,7 +132,7 @@ module _ (W : Script) where
 
 module _ (W : Script) (D : Side) (left : W.Cursor → ℕ) where
   -- a task carried alone: its string, its outcome and the side after it
-  abbrev pub task_string : W.Task → D.S → List ℕ
+  abbrev pub task_string : W.Task → D.S → List Letter
   task_string t s = alone W D left (W.begin t) s
 
   abbrev pub task_outcome : W.Task → D.S → W.Outcome
@@ -148,7 +143,7 @@ module _ (W : Script) (D : Side) (left : W.Cursor → ℕ) where
 
   abbrev pub pick : W.Task → Option W.Task → D.S → W.Task
   pick t None s = t
-  pick t (Some u) s = cond (lexb (task_string t s) (task_string u s)) t u
+  pick t (Some u) s = cond (first_or_same (task_string t s) (task_string u s)) t u
 
   -- the first of those with the least string
   abbrev pub leader : Tasks W → D.S → Option W.Task
@@ -158,7 +153,7 @@ module _ (W : Script) (D : Side) (left : W.Cursor → ℕ) where
 
   abbrev pub wins : W.Task → Option W.Task → D.S → Bool
   wins t None s = false
-  wins t (Some u) s = same (task_string t s) (task_string u s)
+  wins t (Some u) s = same_string (task_string t s) (task_string u s)
 
   -- each contender with the leader's string, with the outcome that it is told, carried alone
   abbrev pub outcomes : Tasks W → Option W.Task → D.S → List (Option W.Outcome)
@@ -223,33 +218,17 @@ module _ (W : Script) (D : Side) (left : W.Cursor → ℕ) (H : Hosts W) where
 -- the letters so far, and the level of the last rise, which counts at the next fall if no start or stop comes between
 pub record Spell : Type 0 where
   pub latched : Option Bool
-  pub letters : List ℕ
+  pub letters : List Letter
 
-abbrev pub spell : Option Bool → List ℕ → Spell
+abbrev pub spell : Option Bool → List Letter → Spell
 spell o ls = record { latched = o; letters = ls }
 
-abbrev pub bit_letter : Bool → ℕ
-bit_letter true = 3
-bit_letter false = 0
+-- once a bit that was latched has counted
+abbrev pub fallen : Option Bool → List Letter → Spell
+fallen o ls = spell None (ls ++ letters_of_bit o)
 
-abbrev pub fallen : Option Bool → List ℕ → Spell
-fallen None ls = spell None ls
-fallen (Some b) ls = spell None (ls ++ (bit_letter b ∷ []))
-
--- what a watcher notes of the open turn: the falls so far, whether the last of its rises and falls is a rise, who was marked lost, and what was spelled
-pub record Watch : Type 0 where
-  pub falls : ℕ
-  pub risen : Bool
-  pub marked : List Bool
-  pub spelling : Spell
-
-abbrev pub watch : ℕ → Bool → List Bool → Spell → Watch
-watch n r v z = record { falls = n; risen = r; marked = v; spelling = z }
-
--- a start before the first fall is the turn's own, any later one a repeated start
-abbrev pub restarted : ℕ → Spell → Spell
-restarted zero z = z
-restarted (suc n) z = spell None (z.letters ++ (2 ∷ []))
+abbrev pub watch : ℕ → Bool → List Bool → Spell → Monitor
+watch n r v z = record { falls = n; risen = r; marked = v; latch = z.latched; spelled = z.letters }
 
 abbrev pub falses : {A : Type 0} → List (Option A) → List Bool
 falses os = map (λ o. false) os
@@ -260,23 +239,20 @@ module _ (W : Script) where
   marks_too (v ∷ vs) [] = v ∷ vs
   marks_too (v ∷ vs) (k ∷ ks) = (v || is_lost W k) ∷ marks_too vs ks
 
-  -- a turn opens: nothing is noted yet
-  abbrev pub anew : Watch → Tasks W → Option (Tasks W) → Watch
-  anew w os None = cond (any os) (watch 0 false (falses os) (spell None [])) w
-  anew w os (Some l) = w
+  -- a turn that opens is watched afresh
+  abbrev pub turned : Monitor → Tasks W → Option (Tasks W) → Event → Monitor
+  turned w os (Some l) e = sees_event w e
+  turned w os None SteadyHigh = cond (any os) (watch 0 false (falses os) (spell None [])) w
+  turned w os None Fall = sees_event w Fall
+  turned w os None (Rise x) = sees_event w (Rise x)
+  turned w os None Start = sees_event w Start
+  turned w os None Stop = sees_event w Stop
+  turned w os None SteadyLow = sees_event w SteadyLow
 
-  abbrev pub turned : Watch → Tasks W → Option (Tasks W) → Event → Watch
-  turned w os t SteadyHigh = anew w os t
-  turned w os t Fall = watch (suc w.falls) false w.marked (fallen w.spelling.latched w.spelling.letters)
-  turned w os t (Rise x) = watch w.falls true w.marked (spell (Some x) w.spelling.letters)
-  turned w os t Start = watch w.falls w.risen w.marked (restarted w.falls w.spelling)
-  turned w os t Stop = watch w.falls false w.marked (spell None (w.spelling.letters ++ (1 ∷ [])))
-  turned w os t SteadyLow = w
+  abbrev pub noted : Monitor → List (VerdictModel W) → Monitor
+  noted w ks = record w { marked = marks_too w.marked ks }
 
-  abbrev pub noted : Watch → List (VerdictModel W) → Watch
-  noted w ks = watch w.falls w.risen (marks_too w.marked ks) w.spelling
-
-  abbrev pub sees : Watch → Tasks W → Option (Tasks W) → Event → List (VerdictModel W) → Watch
+  abbrev pub sees : Monitor → Tasks W → Option (Tasks W) → Event → List (VerdictModel W) → Monitor
   sees w os t e ks = noted (turned w os t e) ks
 
   -- the making: fresh masters with these clocks
@@ -297,7 +273,7 @@ module _ (W : Script) (D : Side) (H : Hosts W) where
     pub hosts : H.State
     pub bus : Bus W D
     pub book : Book W D H
-    pub watch : Watch
+    pub watch : Monitor
     pub arms : ℕ
     pub told : ℕ
 
@@ -354,7 +330,6 @@ module _ (W : Script) (D : Side) (H : Hosts W) where
   pub record Point (x : Use W D H) : Type 0 where
     pub hosts : x.hosts ≡ x.book.hosts
     pub armed : armeds W x.bus.masters ≡ x.book.armed
-    pub wanted : Wanted (H.wants x.book.hosts) x.book.armed
     pub side : x.bus.wire.busy ≡ false → x.bus.side ≡ x.book.side
     pub arms : x.arms ≡ x.told + count x.book.armed
     -- who was marked lost pulls neither line up to the stop
@@ -362,7 +337,7 @@ module _ (W : Script) (D : Side) (H : Hosts W) where
 
 module _ (W : Script) (D : Side) (left : W.Cursor → ℕ) where
   -- what a mark of a loss says: t is the open turn, s the side at rest, v who was marked before, and w is noted with this tick's event
-  pub record Loses (t : Option (Tasks W)) (s : D.S) (v : List Bool) (w : Watch) (i : ℕ) : Type 0 where
+  pub record Loses (t : Option (Tasks W)) (s : D.S) (v : List Bool) (w : Monitor) (i : ℕ) : Type 0 where
     pub turn : Tasks W
     pub now : t ≡ Some turn
     pub task : W.Task
@@ -373,18 +348,18 @@ module _ (W : Script) (D : Side) (left : W.Cursor → ℕ) where
     pub falls : w.falls ≡ suc letter
     pub least : W.Task
     pub leads : leader W D left turn (D.begin s) ≡ Some least
-    pub first : First (task_string W D left least (D.begin s)) (task_string W D left task (D.begin s)) letter
+    pub first : FirstDifference (task_string W D left least (D.begin s)) (task_string W D left task (D.begin s)) letter
 
   -- what a stop says of a contender i with the task p: s is the side at rest, v who was marked, ts who is told
   pub record Stopped (l : Tasks W) (s : D.S) (v : List Bool) (ts : List (Option W.Outcome)) (i : ℕ) (p : W.Task) : Type 0 where
     -- told are those never marked
     pub unmarked : is_some (at ts i) ≡ not (get_or v i false)
     -- and those whose string is below each contender's
-    pub least : is_some (at ts i) ≡ true → (j : ℕ) (q : W.Task) → at l j ≡ Some q → lexb (task_string W D left p (D.begin s)) (task_string W D left q (D.begin s)) ≡ true
-    pub wins : ((j : ℕ) (q : W.Task) → at l j ≡ Some q → lexb (task_string W D left p (D.begin s)) (task_string W D left q (D.begin s)) ≡ true) → is_some (at ts i) ≡ true
+    pub least : is_some (at ts i) ≡ true → (j : ℕ) (q : W.Task) → at l j ≡ Some q → first_or_same (task_string W D left p (D.begin s)) (task_string W D left q (D.begin s)) ≡ true
+    pub wins : ((j : ℕ) (q : W.Task) → at l j ≡ Some q → first_or_same (task_string W D left p (D.begin s)) (task_string W D left q (D.begin s)) ≡ true) → is_some (at ts i) ≡ true
 
   -- what was spelled, the stop included, is the least string
-  pub record Spelled (l : Tasks W) (s : D.S) (letters : List ℕ) : Type 0 where
+  pub record Spelled (l : Tasks W) (s : D.S) (letters : List Letter) : Type 0 where
     pub least : W.Task
     pub leads : leader W D left l (D.begin s) ≡ Some least
     pub whole : letters ≡ task_string W D left least (D.begin s)
@@ -397,7 +372,7 @@ module _ (W : Script) (D : Side) (left : W.Cursor → ℕ) (H : Hosts W) where
     pub stops : tick_event W D x.bus ≡ Stop → (l : Tasks W) → x.book.turn ≡ Some l → (i : ℕ) (p : W.Task) → at l i ≡ Some p →
         Stopped W D left l x.book.side x.watch.marked (tick_tells W D x.bus) i p
     pub spelled : tick_event W D x.bus ≡ Stop → (l : Tasks W) → x.book.turn ≡ Some l →
-        Spelled W D left l x.book.side (turned W x.watch x.book.armed x.book.turn (tick_event W D x.bus)).spelling.letters
+        Spelled W D left l x.book.side (turned W x.watch x.book.armed x.book.turn (tick_event W D x.bus)).spelled
 
   pub record Law (x : Use W D H) : Type 0 where
     pub point : Point W D H x
@@ -414,9 +389,8 @@ module _ (W : Script) (D : Side) (left : W.Cursor → ℕ) (H : Hosts W) where
 -- what scripts, hosts and the side must satisfy; Fits: what hosts may want; Rest: how a stop leaves the side
 pub record Plays (W : Script) (D : Side) (left : W.Cursor → ℕ) (H : Hosts W) (Alike : W.Cursor → W.Cursor → Type 0) (Fits : W.Task → Type 0) (Rest : D.S → Type 0) : Type 0 where
   pub wants : (a : H.State) (i : ℕ) (t : W.Task) → at (H.wants a) i ≡ Some t → Fits t
-  -- where nobody is told nothing changes, and who is told nothing wants the same
+  -- where nobody is told nothing changes
   pub unheard : (a : H.State) (ts : List (Option W.Outcome)) → ((i : ℕ) → at ts i ≡ None) → H.hear a ts ≡ a
-  pub still_wants : (a : H.State) (ts : List (Option W.Outcome)) (i : ℕ) → at ts i ≡ None → at (H.wants (H.hear a ts)) i ≡ at (H.wants a) i
   pub alike : (t u : W.Task) → Fits t → Fits u → Alike (W.begin t) (W.begin u)
   pub short : (t : W.Task) → Fits t → left (W.begin t) ≤ most_letters
   pub quiet : (t : W.Task) (s : D.S) → Fits t → Rest s → Quiet W D (W.begin t) (D.begin s)

@@ -6,46 +6,49 @@ use Rattle.master.specs.declared.symbol.Symbol.{Symbol}
 use Rattle.master.specs.Script.{Script}
 use Rattle.law.proofs.Sides.{Side, ends, letter, heard, after, string, last}
 use Rattle.law.proofs.Law.Phases.{rank}
-use Rattle.law.proofs.Law.Race.{at, common, lexb, First, lead, slots, opened, alone, alone_side, Laws}
+use Rattle.law.specs.Law.{FirstDifference}
+use Rattle.law.specs.Letter.{Letter, zero as low, rank as place, same_letter, first_or_same}
+use Rattle.law.proofs.Letters.{same_is}
+use Rattle.law.proofs.Law.Race.{at, common, lead, slots, opened, alone, alone_side, Laws}
 use Rattle.law.proofs.Law.Lists.{rank_top}
 use Rattle.law.proofs.Law.Order.{rank_inj, lead_least, lead_shown, Shown, at_keep, kept}
 use Rattle.law.proofs.Law.Fates.{common_same, text, Fate, next_live, next_side, slots_next, keeps, Fair, fair_next, fate}
 
-pub lexb_anti : (t u : List ℕ) → lexb t u ≡ true → lexb u t ≡ true → t ≡ u
+pub lexb_anti : (t u : List Letter) → first_or_same t u ≡ true → first_or_same u t ≡ true → t ≡ u
 lexb_anti [] [] h k = refl
 lexb_anti [] (b ∷ u) h k = cc
 lexb_anti (a ∷ t) [] h k = cc
-lexb_anti (a ∷ t) (b ∷ u) h k = heads (lexb_anti t u) (eqb a b) (eqb b a) refl refl h k
+lexb_anti (a ∷ t) (b ∷ u) h k = heads (lexb_anti t u) (same_letter a b) (same_letter b a) refl refl h k
   where
-    heads : (lexb t u ≡ true → lexb u t ≡ true → t ≡ u) → (x y : Bool) → eqb a b ≡ x → eqb b a ≡ y → cond x (lexb t u) (ltb a b) ≡ true → cond y (lexb u t) (ltb b a) ≡ true → (a ∷ t) ≡ (b ∷ u)
-    heads ih true true e d v w = let z = ih v w in let y : a ≡ b = eqb-true a b e in cc
+    heads : (first_or_same t u ≡ true → first_or_same u t ≡ true → t ≡ u) → (x y : Bool) → same_letter a b ≡ x → same_letter b a ≡ y → cond x (first_or_same t u) (ltb (place a) (place b)) ≡ true → cond y (first_or_same u t) (ltb (place b) (place a)) ≡ true → (a ∷ t) ≡ (b ∷ u)
+    heads ih true true e d v w = let z = ih v w in let y : a ≡ b = same_is a b e in cc
     heads ih true false e d v w = absurd (grind (arith, nat_tests))
     heads ih false true e d v w = absurd (grind (arith, nat_tests))
     heads ih false false e d v w = absurd (grind (arith, nat_tests))
 
-pub common_whole : (t : List ℕ) → common t t ≡ length t
+pub common_whole : (t : List Letter) → common t t ≡ length t
 common_whole [] = refl
 common_whole (a ∷ t) = common_same a t t ∙ ap suc (common_whole t)
 
-first : (t u : List ℕ) → lexb t u ≡ true → common t u < length t → First t u (common t u)
+first : (t u : List Letter) → first_or_same t u ≡ true → common t u < length t → FirstDifference t u (common t u)
 first [] u h d = absurd (omega arith)
 first (a ∷ t) [] h d = cc
-first (a ∷ t) (b ∷ u) h d = heads (first t u) (eqb a b) refl h d
+first (a ∷ t) (b ∷ u) h d = heads (first t u) (same_letter a b) refl h d
   where
-    heads : (lexb t u ≡ true → common t u < length t → First t u (common t u)) → (x : Bool) → eqb a b ≡ x → cond x (lexb t u) (ltb a b) ≡ true →
-        cond x (suc (common t u)) 0 < suc (length t) → First (a ∷ t) (b ∷ u) (cond x (suc (common t u)) 0)
+    heads : (first_or_same t u ≡ true → common t u < length t → FirstDifference t u (common t u)) → (x : Bool) → same_letter a b ≡ x → cond x (first_or_same t u) (ltb (place a) (place b)) ≡ true →
+        cond x (suc (common t u)) 0 < suc (length t) → FirstDifference (a ∷ t) (b ∷ u) (cond x (suc (common t u)) 0)
     heads ih true e v w = let f = ih v (omega arith) in record { in_t = omega arith; in_u = omega arith; same = same f; less = f.less }
       where
-        same : First t u (common t u) → (k : ℕ) → k < suc (common t u) → get_or (a ∷ t) k 0 ≡ get_or (b ∷ u) k 0
-        same f zero h = eqb-true a b e
+        same : FirstDifference t u (common t u) → (k : ℕ) → k < suc (common t u) → get_or (a ∷ t) k low ≡ get_or (b ∷ u) k low
+        same f zero h = same_is a b e
         same f (suc k) h = f.same k (omega arith)
-    heads ih false e v w = record { in_t = omega arith; in_u = omega arith; same = λ k h. absurd (omega arith); less = ltb-true a b v }
+    heads ih false e v w = record { in_t = omega arith; in_u = omega arith; same = λ k h. absurd (omega arith); less = ltb-true (place a) (place b) v }
 
 module _ (W : Script) (D : Side) (left : W.Cursor → ℕ) where
   -- what holds of the contenders l from the side s, where t is the least of their strings
-  pub record Arbitrated (l : List (Option W.Cursor)) (s : D.S) (t : List ℕ) : Type 0 where
+  pub record Arbitrated (l : List (Option W.Cursor)) (s : D.S) (t : List Letter) : Type 0 where
     pub winner : (i : ℕ) × ((p : W.Cursor) × (at l i ≡ Some p) × (alone W D left p s ≡ t))
-    pub least : (i : ℕ) (p : W.Cursor) → at l i ≡ Some p → lexb t (alone W D left p s) ≡ true
+    pub least : (i : ℕ) (p : W.Cursor) → at l i ≡ Some p → first_or_same t (alone W D left p s) ≡ true
     -- the last of these slots is the first that ends
     pub early : (k : ℕ) → k < length t → (slots W D k (opened W D l s)).over ≡ false
     pub over : (slots W D (length t) (opened W D l s)).over ≡ true
@@ -55,22 +58,22 @@ module _ (W : Script) (D : Side) (left : W.Cursor → ℕ) where
     -- who is in at the Stop
     pub won : (i : ℕ) (p : W.Cursor) → at l i ≡ Some p → is_some (at (slots W D (length t) (opened W D l s)).live i) ≡ true → alone W D left p s ≡ t
     pub wins : (i : ℕ) (p : W.Cursor) → at l i ≡ Some p →
-        ((k : ℕ) (q : W.Cursor) → at l k ≡ Some q → lexb (alone W D left p s) (alone W D left q s) ≡ true) →
+        ((k : ℕ) (q : W.Cursor) → at l k ≡ Some q → first_or_same (alone W D left p s) (alone W D left q s) ≡ true) →
         is_some (at (slots W D (length t) (opened W D l s)).live i) ≡ true
     -- a loser drops in the slot in which its string first differs
-    pub lost : (i : ℕ) (p : W.Cursor) → at l i ≡ Some p → (alone W D left p s ≡ t → ⊥) → (c : ℕ) × First t (alone W D left p s) c ×
+    pub lost : (i : ℕ) (p : W.Cursor) → at l i ≡ Some p → (alone W D left p s ≡ t → ⊥) → (c : ℕ) × FirstDifference t (alone W D left p s) c ×
         (is_some (at (slots W D c (opened W D l s)).live i) ≡ true) × (is_some (at (slots W D (suc c) (opened W D l s)).live i) ≡ false)
     -- what each slot carries
-    pub letters : (k : ℕ) → k < length t → letter D (lead W (slots W D k (opened W D l s)).live) (slots W D k (opened W D l s)).side ≡ get_or t k 0
+    pub letters : (k : ℕ) → k < length t → letter D (lead W (slots W D k (opened W D l s)).live) (slots W D k (opened W D l s)).side ≡ get_or t k low
     -- the side at the Stop
     pub ended : (i : ℕ) (p : W.Cursor) → at l i ≡ Some p → alone W D left p s ≡ t → (slots W D (length t) (opened W D l s)).side ≡ alone_side W D left p s
 
 module _ (W : Script) (D : Side) where
-  pub record Finish (n : ℕ) (l : List (Option W.Cursor)) (s : D.S) (t : List ℕ) : Type 0 where
+  pub record Finish (n : ℕ) (l : List (Option W.Cursor)) (s : D.S) (t : List Letter) : Type 0 where
     pub winner : (i : ℕ) × ((p : W.Cursor) × (at l i ≡ Some p) × (string W D n p s ≡ t))
     pub over : (slots W D (length t) (opened W D l s)).over ≡ true
     pub early : (k : ℕ) → k < length t → (slots W D k (opened W D l s)).over ≡ false
-    pub letters : (k : ℕ) → k < length t → letter D (lead W (slots W D k (opened W D l s)).live) (slots W D k (opened W D l s)).side ≡ get_or t k 0
+    pub letters : (k : ℕ) → k < length t → letter D (lead W (slots W D k (opened W D l s)).live) (slots W D k (opened W D l s)).side ≡ get_or t k low
 
   string_next : (n : ℕ) (x : Symbol) (p r : W.Cursor) (s : D.S) → W.symbol p ≡ x → ends x ≡ false → r ≡ W.next p (heard D x s) →
       string W D (suc n) p s ≡ letter D x s ∷ string W D n r (after D x s)
@@ -84,11 +87,11 @@ module _ (W : Script) (D : Side) where
       early zero h = refl
       early (suc k) h = absurd (omega arith)
 
-      letters : (k : ℕ) → k < 1 → letter D (lead W (slots W D k (opened W D l s)).live) (slots W D k (opened W D l s)).side ≡ get_or (letter D (lead W l) s ∷ []) k 0
+      letters : (k : ℕ) → k < 1 → letter D (lead W (slots W D k (opened W D l s)).live) (slots W D k (opened W D l s)).side ≡ get_or (letter D (lead W l) s ∷ []) k low
       letters zero h = refl
       letters (suc k) h = absurd (omega arith)
 
-  finish_more : (n : ℕ) (l : List (Option W.Cursor)) (s : D.S) (t : List ℕ) → ends (lead W l) ≡ false → Finish n (next_live W D l s) (next_side W D l s) t →
+  finish_more : (n : ℕ) (l : List (Option W.Cursor)) (s : D.S) (t : List Letter) → ends (lead W l) ≡ false → Finish n (next_live W D l s) (next_side W D l s) t →
       Finish (suc n) l s (letter D (lead W l) s ∷ t)
   finish_more n l s t d f = let w = f.winner in let k = kept W (lead W l) (heard D (lead W l) s) (at l w.0) w.1.0 (sym (at_keep W (lead W l) (heard D (lead W l) s) l w.0) ∙ w.1.1) in record {
     winner = (w.0, (k.was, k.there, string_next n (lead W l) k.was w.1.0 s k.shows d k.rest ∙ ap (λ z. letter D (lead W l) s ∷ z) w.1.2));
@@ -101,7 +104,7 @@ module _ (W : Script) (D : Side) where
       early zero h = refl
       early (suc k) h = rw (slots_next W D k l s d) (f.early k (omega arith))
 
-      letters : (k : ℕ) → k < suc (length t) → letter D (lead W (slots W D k (opened W D l s)).live) (slots W D k (opened W D l s)).side ≡ get_or (letter D (lead W l) s ∷ t) k 0
+      letters : (k : ℕ) → k < suc (length t) → letter D (lead W (slots W D k (opened W D l s)).live) (slots W D k (opened W D l s)).side ≡ get_or (letter D (lead W l) s ∷ t) k low
       letters zero h = refl
       letters (suc k) h = rw (slots_next W D k l s d) (f.letters k (omega arith))
 
@@ -153,7 +156,7 @@ module _ (W : Script) (D : Side) (left : W.Cursor → ℕ) (Alike : W.Cursor →
     ended = λ k q e. (own k q e).side;
   }
     where
-      t : List ℕ
+      t : List Letter
       t = text W D (most l) l s
 
       fair : Fair W left Alike (most l) l
@@ -169,7 +172,7 @@ module _ (W : Script) (D : Side) (left : W.Cursor → ℕ) (Alike : W.Cursor →
       own k q e = rw ((same k q e).0, (same k q e).1) (fate W D left Alike laws (most l) l s fair k q e)
 
       lost : (k : ℕ) (q : W.Cursor) → at l k ≡ Some q → Fate W D l s k t (alone W D left q s) (alone_side W D left q s) → (alone W D left q s ≡ t → ⊥) →
-          (c : ℕ) × First t (alone W D left q s) c × (is_some (at (slots W D c (opened W D l s)).live k) ≡ true) × (is_some (at (slots W D (suc c) (opened W D l s)).live k) ≡ false)
+          (c : ℕ) × FirstDifference t (alone W D left q s) c × (is_some (at (slots W D c (opened W D l s)).live k) ≡ true) × (is_some (at (slots W D (suc c) (opened W D l s)).live k) ≡ false)
       lost k q e g h =
           let u = alone W D left q s in
           let d : common t u < length t = elim (cases_lt (common t u) (length t)) [ inl z ↦ z | inr z ↦ absurd (h (g.whole z)) ] in (
@@ -179,7 +182,7 @@ module _ (W : Script) (D : Side) (left : W.Cursor → ℕ) (Alike : W.Cursor →
             g.live (suc (common t u)) d ∙ lt-leb (suc (common t u)) (common t u) (omega arith),
           )
 
-      wins : (k : ℕ) (q : W.Cursor) → at l k ≡ Some q → lexb (alone W D left q s) (alone W D left f.winner.1.0 s) ≡ true →
+      wins : (k : ℕ) (q : W.Cursor) → at l k ≡ Some q → first_or_same (alone W D left q s) (alone W D left f.winner.1.0 s) ≡ true →
           is_some (at (slots W D (length t) (opened W D l s)).live k) ≡ true
       wins k q e h =
           let w : alone W D left f.winner.1.0 s ≡ t = (same f.winner.0 f.winner.1.0 f.winner.1.1).0 ∙ f.winner.1.2 in

@@ -31,7 +31,7 @@ use Rattle.law.proofs.Alone.Reached.{noted_by}
 use Rattle.law.proofs.Alone.SlotsLeft.{slots_left}
 use Rattle.law.proofs.Law.Machine.{Bus}
 use Rattle.law.proofs.Law.Stands.{Stands, idle, claims, begun, low, rose, high}
-use Rattle.law.proofs.Law.Uses.{Tasks, Watch as LawWatch}
+use Rattle.law.proofs.Law.Uses.{Tasks}
 use Rattle.law.proofs.View.Beginning.{StandsAt, every_use_lawful, every_use_stands}
 use Rattle.law.proofs.View.Booked.{contenders, turn_if}
 use Rattle.law.proofs.View.Morphisms.{pulls_to, port_places, device_places}
@@ -155,7 +155,7 @@ is_stop SteadyLow = inr (λ e. cc)
 
 -- where no turn is open the side is as the book has it
 module _ (W : Script) (D : Side) (left : W.Cursor → ℕ) (Same : W.Cursor → W.Cursor → Type 0) (Fits : W.Task → Type 0) (Rest : D.S → Type 0) where
-  at_rest : (u : Bus W D) (os : Tasks W) (s : D.S) (t : Option (Tasks W)) (w : LawWatch) (n : ℕ) → Stands W D left Same Fits Rest u os s t w n → t ≡ None → u.side ≡ s
+  at_rest : (u : Bus W D) (os : Tasks W) (s : D.S) (t : Option (Tasks W)) (w : Monitor) (n : ℕ) → Stands W D left Same Fits Rest u os s t w n → t ≡ None → u.side ≡ s
   at_rest _ _ _ _ _ _ (idle u os s w cs e a t g q y) z = ap (λ b. b.side) e
   at_rest _ _ _ _ _ _ (claims u os s l v sp cs e m g q y) z = cc
   at_rest _ _ _ _ _ _ (begun u os s l v sp cs k n e b c m g q y) z = cc

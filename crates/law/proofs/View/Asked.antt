@@ -21,7 +21,7 @@ use Rattle.law.specs.Bus.{no_holds, levels_at, told_at, ClocksInRange}
 use Rattle.law.specs.TransferResult.{AddressedDevice, transfer_result}
 use Rattle.law.specs.Facts.{read_leg}
 use Rattle.law.specs.Legal.{IsLegal}
-use Rattle.law.specs.Letter.{Letter, zero as low, rank}
+use Rattle.law.specs.Letter.{Letter, zero as low, one}
 use Rattle.law.specs.Monitor.{new_monitor, monitor_after_event, marked_after}
 use Rattle.master.specs.Mark.{is_lost}
 use Rattle.law.specs.Use.{ticks, Use, lists_appended, event_at, marks_of, monitor_after, steps_then, use_after_tick, use_after, new_use}
@@ -56,13 +56,13 @@ unmarked_after (v ∷ vs) (k ∷ ks) zero e n = ap (λ w. w || is_lost k) e ∙ 
   not_lost Lost n = absurd (n refl)
 unmarked_after (v ∷ vs) (k ∷ ks) (suc i) e n = unmarked_after vs ks i e n
 
-last_low : (ts : List Letter) (n : ℕ) → length ts ≡ n → get_or (map rank (ts ++ (low ∷ []))) n 3 ≡ 0
+last_low : (ts : List Letter) (n : ℕ) → length ts ≡ n → get_or (ts ++ (low ∷ [])) n one ≡ low
 last_low [] zero e = refl
 last_low [] (suc n) e = absurd (omega arith)
 last_low (t ∷ ts) zero e = absurd (omega arith)
 last_low (t ∷ ts) (suc n) e = last_low ts n (omega arith)
 
-one_longer : (ts : List Letter) → length (map rank (ts ++ (low ∷ []))) ≡ suc (length ts)
+one_longer : (ts : List Letter) → length (ts ++ (low ∷ [])) ≡ suc (length ts)
 one_longer [] = refl
 one_longer (t ∷ ts) = ap suc (one_longer ts)
 
@@ -185,15 +185,15 @@ module _ (hs : List HostBehaviour) (ds : List Behaviour) where
 
         reached_by : ForNow transfers (ports_side es) (used_as hs es then).bus (used_as hs es then).book.side (used_as hs es then).watch t →
             AtSomePort (port_places ds x.bus.ports) (steps_then hs ds x) g.address (Acknowledged g.body n)
-        reached_by (inl z) = absurd (let q : length (map rank then.watch.spelled) ≡ 0 = ap length z in let r = ap (λ l. length (map rank l)) spelled ∙ one_longer hears.so_far in omega arith)
+        reached_by (inl z) = absurd (let q : length then.watch.spelled ≡ 0 = ap length z in let r = ap (λ l. length l) spelled ∙ one_longer hears.so_far in omega arith)
         reached_by (inr f) =
             let m = after_these ds y.book.devices in
-            let gone : f.slots_gone ≡ suc place = sym f.many ∙ (ap (λ l. length (map rank l)) spelled ∙ (one_longer hears.so_far ∙ ap suc hears.place)) in
+            let gone : f.slots_gone ≡ suc place = sym f.many ∙ (ap (λ l. length l) spelled ∙ (one_longer hears.so_far ∙ ap suc hears.place)) in
             let side = last transfers (ports_side es) (suc place) (new_cursor t) (opened_ports es (all_nothing_noted ds d)) in
             let devices : then.book.devices ≡ devices_to es es m (all_nothing_noted ds d) = ap (λ b. b.devices) same_book ∙ sym again in
-            let there : get_or (string transfers (ports_side es) f.slots_gone (new_cursor t) (opened_ports es (all_nothing_noted ds d))) place 3 ≡ 0 =
-            sym (ap (λ l. get_or l place 3) (f.letters ∙ (ap (λ q. string transfers (ports_side es) f.slots_gone (new_cursor t) (opened_ports es q)) devices ∙ spelled_to es es m f.slots_gone t (all_nothing_noted ds d))))
-            ∙ (ap (λ l. get_or (map rank l) place 3) spelled ∙ last_low hears.so_far place hears.place) in
+            let there : get_or (string transfers (ports_side es) f.slots_gone (new_cursor t) (opened_ports es (all_nothing_noted ds d))) place one ≡ low =
+            sym (ap (λ l. get_or l place one) (f.letters ∙ (ap (λ q. string transfers (ports_side es) f.slots_gone (new_cursor t) (opened_ports es q)) devices ∙ spelled_to es es m f.slots_gone t (all_nothing_noted ds d))))
+            ∙ (ap (λ l. get_or l place one) spelled ∙ last_low hears.so_far place hears.place) in
             let same_side : bank_map unheld es then.bus.ports ≡ ports_to es es m side = f.side
             ∙ (ap₂ (λ j q. last transfers (ports_side es) j (new_cursor t) (opened_ports es q)) gone devices ∙ played_to es es m (suc place) t (all_nothing_noted ds d)) in
             let noted : noted_by ds side ≡ steps_then hs ds x = cancelled (noted_by ds side) (length_noted_by ds side)

@@ -9,7 +9,7 @@ use Rattle.port.specs.Port.{reset_port, PortModel}
 use Rattle.law.specs.Use.{Call, Use, use_after, new_entry, addressed_device, new_use}
 use Rattle.law.specs.Law.{EveryUse}
 use Rattle.master.specs.Script.{transfers}
-use Rattle.law.proofs.Alone.Alike.{Alike}
+use Rattle.law.proofs.Alone.Alike.{Alike, cursor_laws}
 use Rattle.law.proofs.Alone.Idle.{Idle}
 use Rattle.law.specs.Legal.{IsLegal}
 use Rattle.law.proofs.Alone.PortsSide.{unheld, ports_side, idle_ports}
@@ -19,7 +19,7 @@ use Rattle.law.proofs.Law.Stands.{Stands}
 use Rattle.law.proofs.Law.Uses.{Clocks, armeds, fresh_masters, book, watch, spell, made as law_made, Law as LawLaw}
 use Rattle.law.proofs.View.Booked.{meanings, tasks, Kept}
 use Rattle.law.proofs.View.Holding.{longest_hold}
-use Rattle.law.proofs.View.Hosting.{all_hosts, laws, plays}
+use Rattle.law.proofs.View.Hosting.{all_hosts, plays}
 use Rattle.law.proofs.View.Lawful.{lawful}
 use Rattle.law.proofs.View.Reached.{reached}
 use Rattle.law.proofs.View.Seen.{masters_of}
@@ -82,7 +82,7 @@ module _ (hs : List HostBehaviour) (ds : List Behaviour) where
   every_use_lawful ms ps c cs =
       let x = new_use hs ds ms ps in
       let w = reached hs ds x cs (begins_good ms ps) in
-      let all = every_use transfers (ports_side ds) slots_left (all_hosts hs) Alike IsLegal (Idle ds) laws (plays hs ds) (bank_list clock_of hs ms) (hosts_of hs ms) (rest ps)
+      let all = every_use transfers (ports_side ds) slots_left (all_hosts hs) Alike IsLegal (Idle ds) cursor_laws (plays hs ds) (bank_list clock_of hs ms) (hosts_of hs ms) (rest ps)
       (clocks_fit hs ms c) (record { devices = bank_map addressed_device ds ps; ports_are = refl }) in
       let as_law : used_as hs ds (use_after hs ds x cs) ≡ law_uses hs ds (law_made transfers (ports_side ds) (all_hosts hs) (bank_list clock_of hs ms) (hosts_of hs ms) (rest ps)) w.steps = w.as_law ∙ ap (λ y. law_uses hs ds y w.steps) (begins_as ms ps) in
       lawful hs ds (use_after hs ds x cs) w.good (subst (LawLaw transfers (ports_side ds) slots_left (all_hosts hs)) (sym as_law) (all w.steps w.held))
@@ -95,7 +95,7 @@ module _ (hs : List HostBehaviour) (ds : List Behaviour) where
   every_use_stands ms ps c cs =
       let x = new_use hs ds ms ps in
       let w = reached hs ds x cs (begins_good ms ps) in
-      let all = every_stands transfers (ports_side ds) slots_left (all_hosts hs) Alike IsLegal (Idle ds) laws (plays hs ds) (bank_list clock_of hs ms) (hosts_of hs ms) (rest ps)
+      let all = every_stands transfers (ports_side ds) slots_left (all_hosts hs) Alike IsLegal (Idle ds) cursor_laws (plays hs ds) (bank_list clock_of hs ms) (hosts_of hs ms) (rest ps)
       (clocks_fit hs ms c) (record { devices = bank_map addressed_device ds ps; ports_are = refl }) w.steps w.held in
       let as_law : used_as hs ds (use_after hs ds x cs) ≡ law_uses hs ds (law_made transfers (ports_side ds) (all_hosts hs) (bank_list clock_of hs ms) (hosts_of hs ms) (rest ps)) w.steps = w.as_law ∙ ap (λ y. law_uses hs ds y w.steps) (begins_as ms ps) in
       subst (λ y. (n : ℕ) × Stands transfers (ports_side ds) slots_left Alike IsLegal (Idle ds) y.bus y.book.armed y.book.side y.book.turn y.watch n) (sym as_law) all

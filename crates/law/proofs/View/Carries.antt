@@ -1,6 +1,5 @@
 -- Who leads by the letters of carried alone is who leads slot by slot.
 use Rattle.std.proofs.Common.{◌≡◌, ℕ, Bool, cond, eqb, List, [], ◌∷◌, map, Some, None, Option, sym, refl, ap, ◌∙◌, subst, ap₂, le_refl, arith}
-use Rattle.std.specs.Cmp.Derive.Mapped.{pointwise-map}
 use Rattle.std.specs.Option.{option_map}
 use Rattle.transfer.specs.Transfer.{TransferModel}
 use Rattle.device.specs.Device.{Behaviour}
@@ -10,23 +9,13 @@ use Rattle.law.specs.TransferResult.{AddressedDevice, TransferResult, transfer_r
 use Rattle.master.specs.Cursor.{new_cursor}
 use Rattle.port.specs.Port.{PortModel}
 use Rattle.master.specs.Script.{transfers}
-use Rattle.law.specs.Letter.{Letter, rank, same_string, first_or_same}
+use Rattle.law.specs.Letter.{Letter, same_string, first_or_same}
 use Rattle.law.proofs.Alone.CarriedAlone.{carried_alone}
 use Rattle.law.specs.Legal.{IsLegal}
 use Rattle.law.proofs.Alone.PortsSide.{ports_side, idle_ports}
 use Rattle.law.proofs.Alone.SlotsLeft.{slots_left}
 use Rattle.law.proofs.Alone.Statements.{Agrees, opened_ports}
-use Rattle.law.proofs.Law.Race.{lexb}
-use Rattle.law.proofs.Law.Uses.{same, task_string, task_outcome, task_side, pick, leader, wins, outcomes, leader_side}
-
--- strings compare by their ranks
-pub lexb_ranks : (ts us : List Letter) → lexb (map rank ts) (map rank us) ≡ first_or_same ts us
-lexb_ranks [] us = refl
-lexb_ranks (t ∷ ts) [] = refl
-lexb_ranks (t ∷ ts) (u ∷ us) = grind (arith, lexb_ranks ts us)
-
-pub same_ranks : (ts us : List Letter) → same (map rank ts) (map rank us) ≡ same_string ts us
-same_ranks ts us = pointwise-map rank eqb ts us
+use Rattle.law.proofs.Law.Uses.{task_string, task_outcome, task_side, pick, leader, wins, outcomes, leader_side}
 
 abbrev pub LegalIf : Option TransferModel → Type 0
 LegalIf None = Unit {0}
@@ -49,17 +38,17 @@ module _ (ds : List Behaviour) (d : Bank AddressedDevice ds) where
   pub agrees : (t : TransferModel) → IsLegal t → Agrees ds t d (slots_left (new_cursor t))
   agrees t k = carried_alone ds t d (slots_left (new_cursor t)) k (le_refl (slots_left (new_cursor t)))
 
-  abbrev pub text : TransferModel → List ℕ
+  abbrev pub text : TransferModel → List Letter
   text t = task_string transfers (ports_side ds) slots_left t side
 
-  pub text_is : (t : TransferModel) → IsLegal t → text t ≡ map rank (carry t).letters
+  pub text_is : (t : TransferModel) → IsLegal t → text t ≡ (carry t).letters
   text_is t k = (agrees t k).same_letters
 
-  pub lexb_is : (t u : TransferModel) → IsLegal t → IsLegal u → lexb (text t) (text u) ≡ first_or_same (carry t).letters (carry u).letters
-  lexb_is t u k l = ap₂ lexb (text_is t k) (text_is u l) ∙ lexb_ranks (carry t).letters (carry u).letters
+  pub lexb_is : (t u : TransferModel) → IsLegal t → IsLegal u → first_or_same (text t) (text u) ≡ first_or_same (carry t).letters (carry u).letters
+  lexb_is t u k l = ap₂ first_or_same (text_is t k) (text_is u l)
 
-  pub same_is : (t u : TransferModel) → IsLegal t → IsLegal u → same (text t) (text u) ≡ same_string (carry t).letters (carry u).letters
-  same_is t u k l = ap₂ same (text_is t k) (text_is u l) ∙ same_ranks (carry t).letters (carry u).letters
+  pub same_is : (t u : TransferModel) → IsLegal t → IsLegal u → same_string (text t) (text u) ≡ same_string (carry t).letters (carry u).letters
+  same_is t u k l = ap₂ same_string (text_is t k) (text_is u l)
 
   abbrev pub lead : List (Option TransferModel) → Option TransferModel
   lead l = leader transfers (ports_side ds) slots_left l side
@@ -73,7 +62,7 @@ module _ (ds : List Behaviour) (d : Bank AddressedDevice ds) where
 
   pick_is : (t : TransferModel) (o : Option TransferModel) → IsLegal t → LegalIf o → carry (pick transfers (ports_side ds) slots_left t o side) ≡ first_of_two ds (carry t) (option_map carry o)
   pick_is t None k l = refl
-  pick_is t (Some u) k l = carry_cond (lexb (text t) (text u)) t u ∙ ap (λ v. cond v (carry t) (carry u)) (lexb_is t u k l)
+  pick_is t (Some u) k l = carry_cond (first_or_same (text t) (text u)) t u ∙ ap (λ v. cond v (carry t) (carry u)) (lexb_is t u k l)
 
   pub least_is : (l : List (Option TransferModel)) → AllLegal l → least_result ds (carry_all l) ≡ option_map carry (lead l)
   least_is [] k = refl

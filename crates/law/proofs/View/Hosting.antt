@@ -8,13 +8,13 @@ use Rattle.device.specs.Device.{Behaviour}
 use Rattle.host.specs.Host.{HostBehaviour}
 use Rattle.law.specs.Bank.{Bank, bank_list}
 use Rattle.master.specs.Script.{transfers}
-use Rattle.law.proofs.Alone.Alike.{Alike, cursor_laws}
+use Rattle.law.proofs.Alone.Alike.{Alike, open_alike}
 use Rattle.law.proofs.Alone.Idle.{Idle, idle_pulls_nothing, quiet_from_idle, idle_at_last}
 use Rattle.law.specs.Legal.{IsLegal}
 use Rattle.law.proofs.Alone.PortsSide.{ports_side}
 use Rattle.law.proofs.Alone.Sealed.{legal_transfer}
 use Rattle.law.proofs.Alone.SlotsLeft.{slots_left, at_most}
-use Rattle.law.proofs.Law.Race.{at, Laws}
+use Rattle.law.proofs.Law.Race.{at}
 use Rattle.law.proofs.Law.Uses.{Hosts, Plays}
 
 abbrev pub Meanings : List HostBehaviour → Type 0
@@ -56,22 +56,11 @@ unheard_all [] m ts e = refl
 unheard_all (h ∷ hs) m [] e = ap (λ r. (m.0, r)) (unheard_all hs m.1 [] e)
 unheard_all (h ∷ hs) m (t ∷ ts) e = λ j. (unheard_one h m.0 t (e 0) j, unheard_all hs m.1 ts (λ i. e (suc i)) j)
 
-still_wants_all : (hs : List HostBehaviour) (m : Meanings hs) (ts : List (Option OutcomeModel)) (i : ℕ) → at ts i ≡ None → at (wants_of hs (hears_all hs m ts)) i ≡ at (wants_of hs m) i
-still_wants_all [] m ts i e = refl
-still_wants_all (h ∷ hs) m [] zero e = refl
-still_wants_all (h ∷ hs) m [] (suc i) e = still_wants_all hs m.1 [] i e
-still_wants_all (h ∷ hs) m (t ∷ ts) zero e = ap (want_of h) (unheard_one h m.0 t e)
-still_wants_all (h ∷ hs) m (t ∷ ts) (suc i) e = still_wants_all hs m.1 ts i e
-
-pub laws : Laws transfers slots_left Alike
-laws = record { some_left = cursor_laws.some_left; fewer = cursor_laws.fewer; both_listen = cursor_laws.both_listen; still_alike = cursor_laws.still_alike }
-
 pub plays : (hs : List HostBehaviour) (ds : List Behaviour) → Plays transfers (ports_side ds) slots_left (all_hosts hs) Alike IsLegal (Idle ds)
 plays hs ds = record {
   wants = legal_wants hs;
   unheard = unheard_all hs;
-  still_wants = still_wants_all hs;
-  alike = cursor_laws.open_alike;
+  alike = open_alike;
   short = at_most;
   quiet = λ t s k h n. quiet_from_idle ds t s n k h;
   calm = idle_pulls_nothing ds;

@@ -11,34 +11,34 @@ use Rattle.law.specs.Bank.{Bank, bank_list, any_true}
 use Rattle.law.specs.Book.{entry_is_armed, Turn, opened, Book, book_arm, contender_results, least_result}
 use Rattle.law.specs.Bus.{BusModel, HoldAnswers, arm_at, levels_at, told_at}
 use Rattle.law.specs.TransferResult.{TransferResult}
+use Rattle.law.specs.Monitor.{Monitor}
 use Rattle.law.specs.Use.{Call, runs, Use, event_at, marks_of, monitor_after, use_after_call, use_after, use_after_ticks, ticks_of_run, ticks_of_call, ticks_of, armed_now}
-use Rattle.law.specs.Law.{true_count, Point, Loses, StopTells, TickLaw, Law}
+use Rattle.law.specs.Law.{FirstDifference, true_count, Point, Loses, StopTells, TickLaw, Law}
 use Rattle.master.specs.MasterState.{quiet, lost, VerdictModel, master_step}
 use Rattle.master.specs.Master.{HostedMaster, mark_of, told_outcome, hosted_mark, hosted_told}
 use Rattle.wire.specs.declared.wire.Signal.{Signal}
 use Rattle.law.specs.Run.{RunModel, Running, run_after_ticks, run_start, run_report, run_at}
 use Rattle.master.specs.Mark.{is_told}
 use Rattle.master.specs.Script.{transfers}
-use Rattle.law.specs.Letter.{rank, first_or_same}
+use Rattle.law.specs.Letter.{first_or_same}
 use Rattle.wire.specs.Wire.{signal}
 use Rattle.law.specs.Legal.{IsLegal}
 use Rattle.law.specs.Limits.{most_ticks, most_ticks_of_turn}
 use Rattle.law.proofs.Alone.PortsSide.{ports_side}
 use Rattle.law.proofs.Alone.SlotsLeft.{slots_left}
-use Rattle.law.proofs.Alone.StringLaws.{same_ranks}
 use Rattle.law.proofs.Law.Machine.{verdicts, tick_event}
-use Rattle.law.proofs.Law.Race.{at, lexb}
-use Rattle.law.proofs.Law.Uses.{any, count, Law as LawLaw, Watch as LawWatch, turned, tick_tells, book_tells as law_tells, ticks_of as steps_ticks}
+use Rattle.law.proofs.Law.Race.{at}
+use Rattle.law.proofs.Law.Uses.{any, count, Law as LawLaw, turned, tick_tells, book_tells as law_tells, ticks_of as steps_ticks}
 use Rattle.law.proofs.View.Booked.{booked, tasks, contenders, contenders_legal, turn_if, contests_of, tells_booked, arm_answers}
 use Rattle.law.proofs.View.Carries.{LegalIf, AllLegal, carry, lead, lead_legal, least_is, lexb_is, text, text_is}
 use Rattle.law.proofs.View.Counted.{somes, count_somes, any_somes, masters_armed, entries_armed, pulls_none, lost_at, placed_back, run_counts}
 use Rattle.law.proofs.View.Hosting.{all_hosts}
 use Rattle.law.proofs.View.InTicks.{runs_are_ticks}
-use Rattle.law.proofs.View.Ranks.{first_difference, carried_from, carried_at}
+use Rattle.law.proofs.View.Ranks.{carried_from, carried_at}
 use Rattle.law.proofs.View.Reached.{reached}
 use Rattle.law.proofs.View.Seen.{masters_of, seen, levels_seen}
 use Rattle.law.proofs.View.Used.{used_as, Good, event_seen, told_seen, arm_answer_is}
-use Rattle.law.proofs.View.Watched.{noted_as, watched_as}
+use Rattle.law.proofs.View.Watched.{watched_as}
 
 pub legal_at : (l : List (Option TransferModel)) (i : ℕ) (t : TransferModel) → AllLegal l → at l i ≡ Some t → IsLegal t
 legal_at [] i t k e = cc
@@ -90,16 +90,16 @@ module _ (hs : List HostBehaviour) (ds : List Behaviour) where
       silent = λ e i m. pulls_none hs x.bus.masters i (law.point.out (turn_some b.turn l e) i m);
     }
 
-    abbrev later : LawWatch
-    later = turned transfers (noted_as x.watch) (tasks hs b.entries) (turn_if b.turn l) (tick_event transfers (ports_side ds) (seen hs ds x.bus))
+    abbrev later : Monitor
+    later = turned transfers x.watch (tasks hs b.entries) (turn_if b.turn l) (tick_event transfers (ports_side ds) (seen hs ds x.bus))
 
-    noted : noted_as (monitor_after hs ds x.watch b (event_at hs ds x.bus)) ≡ later
+    noted : monitor_after hs ds x.watch b (event_at hs ds x.bus) ≡ later
     noted = watched_as hs ds x.watch b (event_at hs ds x.bus) g.sound
-        ∙ ap (λ e. turned transfers (noted_as x.watch) (tasks hs b.entries) (turn_if b.turn l) e) (event_seen hs ds x.bus)
+        ∙ ap (λ e. turned transfers x.watch (tasks hs b.entries) (turn_if b.turn l) e) (event_seen hs ds x.bus)
 
     -- of two contenders, by their letters
     compared : (p q : TransferModel) (i j : ℕ) → at l i ≡ Some p → at l j ≡ Some q →
-        lexb (text ds b.devices p) (text ds b.devices q) ≡ first_or_same (carry ds b.devices p).letters (carry ds b.devices q).letters
+        first_or_same (text ds b.devices p) (text ds b.devices q) ≡ first_or_same (carry ds b.devices p).letters (carry ds b.devices q).letters
     compared p q i j e f = lexb_is ds b.devices p q (legal_at l i p legal e) (legal_at l j q legal f)
 
     leads : (q : TransferModel) → lead ds b.devices l ≡ Some q → least_result ds (contender_results hs ds b) ≡ Some (carry ds b.devices q)
@@ -126,8 +126,8 @@ module _ (hs : List HostBehaviour) (ds : List Behaviour) where
           letter = z.letter;
           shown = ap (λ w. w.falls) noted ∙ z.falls;
           risen = ap (λ w. w.risen) noted ∙ z.risen;
-          first = first_difference (carry ds b.devices z.least).letters (carry ds b.devices z.task).letters (text ds b.devices z.least) (text ds b.devices z.task) z.letter
-              (text_is ds b.devices z.least (lead_fits z.least best)) (text_is ds b.devices z.task (legal_at l i z.task legal here)) z.first;
+          first = subst (λ u. FirstDifference u (carry ds b.devices z.task).letters z.letter) (text_is ds b.devices z.least (lead_fits z.least best))
+              (subst (λ u. FirstDifference (text ds b.devices z.least) u z.letter) (text_is ds b.devices z.task (legal_at l i z.task legal here)) z.first);
         }
 
     told_same : told_at hs ds x.bus ≡ tick_tells transfers (ports_side ds) (seen hs ds x.bus)
@@ -156,8 +156,7 @@ module _ (hs : List HostBehaviour) (ds : List Behaviour) where
     spells e o best c =
         let z = law.ticking.spelled (sym (event_seen hs ds x.bus) ∙ e) l (turn_is b.turn l o) in
         let same : carry ds b.devices z.least ≡ best = let f = leads z.least z.leads in cc in
-        same_ranks (monitor_after hs ds x.watch b (event_at hs ds x.bus)).spelled best.letters
-        (ap (λ w. w.spelling.letters) noted ∙ (z.whole ∙ (text_is ds b.devices z.least (lead_fits z.least z.leads) ∙ ap (λ u. map rank u.letters) same)))
+        ap (λ w. w.spelled) noted ∙ (z.whole ∙ (text_is ds b.devices z.least (lead_fits z.least z.leads) ∙ ap (λ u. u.letters) same))
 
     tick : TickLaw hs ds x
     tick = record {

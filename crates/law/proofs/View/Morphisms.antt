@@ -17,6 +17,7 @@ use Rattle.law.specs.Bank.{Bank, bank_map, bank_list}
 use Rattle.law.specs.Bus.{all_pulls}
 use Rattle.law.specs.TransferResult.{AddressedDevice, transfer_result}
 use Rattle.law.specs.Legal.{IsLegal}
+use Rattle.law.specs.Letter.{zero as low, one}
 use Rattle.law.proofs.Sides.{Side, ends, letter, heard, after, string, last, final}
 use Rattle.law.proofs.Alone.Banks.{any}
 use Rattle.law.proofs.Alone.CarriedAlone.{carried_alone}
@@ -129,7 +130,7 @@ module _ (W : Script) (D E : Side) (h : SideMorphism D E) where
   letter_to : (x : Symbol) (s : D.S) → letter E x (h.to s) ≡ letter D x s
   letter_to Zero s = refl
   letter_to One s = refl
-  letter_to Listen s = ap (λ v. cond v 0 3) (h.pulls s)
+  letter_to Listen s = ap (λ v. cond v low one) (h.pulls s)
   letter_to RepeatedStart s = refl
   letter_to Stop s = refl
 

@@ -18,7 +18,7 @@ use Rattle.wire.specs.Pulls.{pulls_or, levels_of}
 use Rattle.wire.specs.Event.{line_event, event_between}
 use Rattle.wire.specs.Wire.{signal, wire_after}
 use Rattle.law.proofs.Alone.PortsSide.{unheld, ports_side, side_sees, side_follows, side_pulls}
-use Rattle.law.proofs.Law.Machine.{Bus, masters_pull, masters_step, hold_after, side_after, levels, after, tick, verdicts, tick_verdicts}
+use Rattle.law.proofs.Law.Machine.{Bus, masters_pull, masters_step, hold_after, side_after, levels, after, tick}
 use Rattle.law.proofs.View.Holding.{longest_hold, held, asked_hold, hold_follows, answers_small}
 
 abbrev pub master_of : (h : HostBehaviour) → HostedMaster h → MasterModel transfers
@@ -79,12 +79,6 @@ module _ (hs : List HostBehaviour) (ds : List Behaviour) where
       let hold_goes = hold_follows ds u.ports s.event s.bit s.free_and_high a (λ e. h (falls_from_high u.wire.last v e)) in
       (λ i. record { wire = wire_after u.wire v; masters = masters_go i; side = side_goes i; hold = hold_goes i })
       ∙ ap (λ w. after transfers (ports_side ds) (seen u) w (answer_at u a)) (levels_seen u)
-
-  pub verdicts_of : (u : BusModel hs ds) → bank_list (λ h x. (master_step transfers x.master (signal u.wire (levels_at hs ds u))).1) hs u.masters ≡ tick_verdicts transfers (ports_side ds) (seen u)
-  verdicts_of u = each_verdict hs u.masters (signal u.wire (levels_at hs ds u)) ∙ ap (λ v. verdicts transfers (masters_of hs u.masters) (signal u.wire v)) (levels_seen u) where
-    each_verdict : (gs : List HostBehaviour) (ms : Bank HostedMaster gs) (s : Signal) → bank_list (λ h x. (master_step transfers x.master s).1) gs ms ≡ verdicts transfers (masters_of gs ms) s
-    each_verdict [] ms s = refl
-    each_verdict (g ∷ gs) ms s = ap (λ l. (master_step transfers ms.0.master s).1 ∷ l) (each_verdict gs ms.1 s)
 
   -- SCL that is high now is held by nobody, and no step then begins to hold it
   pub still_let_go : (u : BusModel hs ds) (a : HoldAnswers ds) → LetGo u → LetGo (tick_at hs ds u a).1

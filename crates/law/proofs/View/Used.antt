@@ -1,12 +1,12 @@
 -- A use of the bus as a use of the machine of the law, call by call.
-use Rattle.std.proofs.Common.{◌≡◌, ℕ, zero, suc, ◌+◌, cond, List, [], ◌∷◌, is_ok, Result, refl, ap, ◌∙◌, ap₂, arith}
+use Rattle.std.proofs.Common.{◌≡◌, ℕ, zero, suc, ◌+◌, cond, Bool, List, [], ◌∷◌, is_ok, Result, refl, ap, ◌∙◌, ap₂, arith}
 use Rattle.device.specs.Device.{Behaviour}
 use Rattle.host.specs.Host.{HostBehaviour}
 use Rattle.wire.specs.declared.wire.Signal.{Signal}
 use Rattle.law.specs.Bank.{Bank, bank_map}
 use Rattle.law.specs.Bus.{arm_master_at, HoldAnswers, BusModel, levels_at, told_at}
 use Rattle.master.specs.Master.{HostedMaster, hosted_step}
-use Rattle.law.specs.Monitor.{monitor_after_marks}
+use Rattle.law.specs.Monitor.{Monitor, monitor_after_marks}
 use Rattle.law.specs.Use.{arms, Use, event_at, marks_of, monitor_after, use_after_tick, use_after_call}
 use Rattle.master.specs.Script.{transfers}
 use Rattle.wire.specs.Event.{event_between}
@@ -14,11 +14,11 @@ use Rattle.wire.specs.Wire.{signal}
 use Rattle.law.proofs.Alone.PortsSide.{ports_side}
 use Rattle.law.proofs.Alone.SlotsLeft.{slots_left}
 use Rattle.law.proofs.Law.Machine.{Bus, verdicts, tick_event, tick_verdicts}
-use Rattle.law.proofs.Law.Uses.{Step, arms as step_arms, ticks as step_ticks, accepted, count, arm_masters, arm_answer, tellings, tick_tells, noted, turned, Book as LawBook, Watch as LawWatch, Use as LawUse, feed, does, uses}
+use Rattle.law.proofs.Law.Uses.{Step, arms as step_arms, ticks as step_ticks, accepted, count, arm_masters, arm_answer, tellings, tick_tells, noted, turned, Book as LawBook, Use as LawUse, feed, does, uses}
 use Rattle.law.proofs.View.Booked.{booked, Sound, tasks, contenders, turn_if, armed_booked, armed_sound, fed_booked, fed_sound}
 use Rattle.law.proofs.View.Hosting.{Meanings, wants_of, hears_all, all_hosts}
 use Rattle.law.proofs.View.Seen.{masters_of, seen, LetGo, levels_seen, answer_at, tick_seen, still_let_go}
-use Rattle.law.proofs.View.Watched.{noted_as, watched_as, marked_as, told_as, how_many_is}
+use Rattle.law.proofs.View.Watched.{watched_as, marked_as, told_as, how_many_is}
 
 abbrev pub meaning_served : (h : HostBehaviour) → HostedMaster h → h.Meaning
 meaning_served h x = x.meaning
@@ -51,11 +51,11 @@ step_hosts [] ms s = refl
 step_hosts (h ∷ hs) ms s = grind (arith, step_hosts hs)
 
 module _ (hs : List HostBehaviour) (ds : List Behaviour) where
-  abbrev pub law_use : Meanings hs → Bus transfers (ports_side ds) → LawBook transfers (ports_side ds) (all_hosts hs) → LawWatch → ℕ → ℕ → LawUse transfers (ports_side ds) (all_hosts hs)
+  abbrev pub law_use : Meanings hs → Bus transfers (ports_side ds) → LawBook transfers (ports_side ds) (all_hosts hs) → Monitor → ℕ → ℕ → LawUse transfers (ports_side ds) (all_hosts hs)
   law_use a u b w m n = record { hosts = a; bus = u; book = b; watch = w; arms = m; told = n }
 
   abbrev pub used_as : Use hs ds → LawUse transfers (ports_side ds) (all_hosts hs)
-  used_as x = law_use (hosts_of hs x.bus.masters) (seen hs ds x.bus) (booked hs ds x.book) (noted_as x.watch) x.accepted x.told
+  used_as x = law_use (hosts_of hs x.bus.masters) (seen hs ds x.bus) (booked hs ds x.book) x.watch x.accepted x.told
 
   pub record Good (x : Use hs ds) : Type 0 where
     pub let_go : LetGo hs ds x.bus
@@ -79,23 +79,23 @@ module _ (hs : List HostBehaviour) (ds : List Behaviour) where
       let ms = x.bus.masters in
       let same = ap (λ a. x.accepted + a) (accepted_is (arm_master_at hs ms n).0 ∙ ap accepted (arm_answer_is hs ms n)) in
       let bus = ap (λ l. record { wire = x.bus.wire; masters = l; side = (seen hs ds x.bus).side; hold = (seen hs ds x.bus).hold }) (arm_masters_are hs ms n) in
-      λ i. law_use (arm_hosts hs ms n i) (bus i) (armed_booked hs ds x.book n i) (noted_as x.watch) (same i) x.told
+      λ i. law_use (arm_hosts hs ms n i) (bus i) (armed_booked hs ds x.book n i) x.watch (same i) x.told
 
   pub armed_good : (x : Use hs ds) (n : ℕ) → Good x → Good (use_after_call hs ds x (arms n))
   armed_good x n k = record { let_go = k.let_go; sound = armed_sound hs ds x.book n k.sound }
 
   watch_as : (x : Use hs ds) → Sound hs ds x.book →
-      noted_as (monitor_after_marks (monitor_after hs ds x.watch x.book (event_at hs ds x.bus)) (marks_of hs ds x.bus)) ≡
-      noted transfers (turned transfers (noted_as x.watch) (tasks hs x.book.entries) (turn_if x.book.turn (contenders hs x.book.entries)) (tick_event transfers (ports_side ds) (seen hs ds x.bus)))
+      monitor_after_marks (monitor_after hs ds x.watch x.book (event_at hs ds x.bus)) (marks_of hs ds x.bus) ≡
+      noted transfers (turned transfers x.watch (tasks hs x.book.entries) (turn_if x.book.turn (contenders hs x.book.entries)) (tick_event transfers (ports_side ds) (seen hs ds x.bus)))
       (tick_verdicts transfers (ports_side ds) (seen hs ds x.bus))
   watch_as x k =
       let u = x.bus in
       let w = monitor_after hs ds x.watch x.book (event_at hs ds u) in
       let v = levels_at hs ds u in
       let marked = marked_as hs u.masters (signal u.wire v) w.marked in
-      ap (λ l. record { falls = w.falls; risen = w.risen; marked = l; spelling = (noted_as w).spelling }) marked
+      ap (λ (l : List Bool). record w { marked = l }) marked
       ∙ (ap (λ z. noted transfers z (verdicts transfers (masters_of hs u.masters) (signal u.wire v))) (watched_as hs ds x.watch x.book (event_at hs ds u) k)
-      ∙ ap₂ (λ e z. noted transfers (turned transfers (noted_as x.watch) (tasks hs x.book.entries) (turn_if x.book.turn (contenders hs x.book.entries)) e) (verdicts transfers (masters_of hs u.masters) (signal u.wire z)))
+      ∙ ap₂ (λ e z. noted transfers (turned transfers x.watch (tasks hs x.book.entries) (turn_if x.book.turn (contenders hs x.book.entries)) e) (verdicts transfers (masters_of hs u.masters) (signal u.wire z)))
       (event_seen u) (levels_seen hs ds u))
 
   pub ticked_as : (x : Use hs ds) (a : HoldAnswers ds) → Good x → used_as (use_after_tick hs ds x a) ≡ law_does (used_as x) (step_ticks (answer_at hs ds x.bus a))

@@ -10,44 +10,15 @@ use Rattle.wire.specs.declared.wire.Signal.{Signal}
 use Rattle.law.specs.Bank.{Bank, bank_map, bank_list, any_true}
 use Rattle.law.specs.Book.{Entry, entry_contending, entry_is_armed, Turn, closed, opened, is_open, Book, book_after}
 use Rattle.master.specs.Master.{HostedMaster, hosted_mark, hosted_told, told_outcome}
-use Rattle.law.specs.Monitor.{Monitor, new_monitor, monitor_after_event, monitor_after_start, marked_after}
+use Rattle.law.specs.Monitor.{Monitor, new_monitor, marked_after}
 use Rattle.law.specs.Use.{monitor_after}
 use Rattle.master.specs.MasterState.{VerdictModel}
 use Rattle.law.specs.Run.{some_count}
 use Rattle.master.specs.Script.{transfers}
-use Rattle.law.specs.Letter.{Letter, stop, restart, rank, bit_letter}
-use Rattle.law.proofs.Law.Uses.{count, Watch as LawWatch, watch, spell, fallen, restarted, falses, turned, marks_too, telling, tellings}
+use Rattle.law.proofs.Law.Uses.{count, watch, spell, falses, turned, marks_too, telling, tellings}
 use Rattle.law.proofs.Law.Machine.{verdicts}
 use Rattle.law.proofs.View.Booked.{tasks, contenders, turn_if, Kept, any_armed, Sound}
 use Rattle.law.proofs.View.Seen.{masters_of}
-
-abbrev pub noted_as : Monitor → LawWatch
-noted_as w = watch w.falls w.risen w.marked (spell w.latch (map rank w.spelled))
-
-ranks_append : (ts us : List Letter) → map rank (ts ++ us) ≡ map rank ts ++ map rank us
-ranks_append [] us = refl
-ranks_append (t ∷ ts) us = ap (λ l. rank t ∷ l) (ranks_append ts us)
-
-falls_as : (w : Monitor) (o : Option Bool) → w.latch ≡ o → noted_as (monitor_after_event (record w { latch = o }) Fall) ≡ watch (suc w.falls) false w.marked (fallen o (map rank w.spelled))
-falls_as w None e = ap (λ l. watch (suc w.falls) false w.marked (spell None l)) (append_none w.spelled) where
-  append_none : (ts : List Letter) → map rank (ts ++ []) ≡ map rank ts
-  append_none [] = refl
-  append_none (t ∷ ts) = ap (λ l. rank t ∷ l) (append_none ts)
-falls_as w (Some true) e = ap (λ l. watch (suc w.falls) false w.marked (spell None l)) (ranks_append w.spelled (bit_letter true ∷ []))
-falls_as w (Some false) e = ap (λ l. watch (suc w.falls) false w.marked (spell None l)) (ranks_append w.spelled (bit_letter false ∷ []))
-
-starts_as : (w : Monitor) (n : ℕ) → noted_as (monitor_after_start n w) ≡ watch w.falls w.risen w.marked (restarted n (spell w.latch (map rank w.spelled)))
-starts_as w zero = refl
-starts_as w (suc n) = ap (λ l. watch w.falls w.risen w.marked (spell None l)) (ranks_append w.spelled (restart ∷ []))
-
--- an event that opens no turn
-sees_as : (w : Monitor) (os : List (Option TransferModel)) (l : List (Option TransferModel)) (e : Event) → noted_as (monitor_after_event w e) ≡ turned transfers (noted_as w) os (Some l) e
-sees_as w os l Fall = falls_as w w.latch refl
-sees_as w os l (Rise b) = refl
-sees_as w os l Start = starts_as w w.falls
-sees_as w os l Stop = ap (λ l. watch w.falls false w.marked (spell None l)) (ranks_append w.spelled (stop ∷ []))
-sees_as w os l SteadyHigh = refl
-sees_as w os l SteadyLow = refl
 
 falses_are : (hs : List HostBehaviour) (es : Bank Entry hs) → bank_list (λ h x. false) hs es ≡ falses (tasks hs es)
 falses_are [] es = refl
@@ -55,30 +26,29 @@ falses_are (h ∷ hs) es = ap (λ l. false ∷ l) (falses_are hs es.1)
 
 module _ (hs : List HostBehaviour) (ds : List Behaviour) where
   opening_as : (w : Monitor) (b : Book hs ds) (v : Bool) →
-      noted_as (cond (is_open (cond {A = Book hs ds} v (record { entries = bank_map entry_contending hs b.entries; devices = b.devices; turn = opened })
+      cond (is_open (cond {A = Book hs ds} v (record { entries = bank_map entry_contending hs b.entries; devices = b.devices; turn = opened })
       (record { entries = b.entries; devices = b.devices; turn = closed })).turn)
-      (new_monitor (bank_list (λ h x. false) hs b.entries)) w)
-      ≡ cond v (watch 0 false (falses (tasks hs b.entries)) (spell None [])) (noted_as w)
+      (new_monitor (bank_list (λ h x. false) hs b.entries)) w
+      ≡ cond v (watch 0 false (falses (tasks hs b.entries)) (spell None [])) w
   opening_as w b true = ap (λ l. watch 0 false l (spell None [])) (falses_are hs b.entries)
   opening_as w b false = refl
 
   closed_as : (w : Monitor) (b : Book hs ds) (e : Event) → Kept hs b.entries →
-      noted_as (cond (is_open (book_after hs ds (record { entries = b.entries; devices = b.devices; turn = closed }) e).turn) (new_monitor (bank_list (λ h x. false) hs b.entries)) (monitor_after_event w e))
-      ≡ turned transfers (noted_as w) (tasks hs b.entries) None e
+      monitor_after hs ds w (record { entries = b.entries; devices = b.devices; turn = closed }) e ≡ turned transfers w (tasks hs b.entries) None e
   closed_as w b SteadyHigh k = opening_as w b (any_true (bank_list entry_is_armed hs b.entries))
-      ∙ ap (λ v. cond v (watch 0 false (falses (tasks hs b.entries)) (spell None [])) (noted_as w)) (sym (any_armed hs b.entries k))
-  closed_as w b Fall k = falls_as w w.latch refl
+      ∙ ap (λ v. cond v (watch 0 false (falses (tasks hs b.entries)) (spell None [])) w) (sym (any_armed hs b.entries k))
+  closed_as w b Fall k = refl
   closed_as w b (Rise x) k = refl
-  closed_as w b Start k = starts_as w w.falls
-  closed_as w b Stop k = ap (λ l. watch w.falls false w.marked (spell None l)) (ranks_append w.spelled (stop ∷ []))
+  closed_as w b Start k = refl
+  closed_as w b Stop k = refl
   closed_as w b SteadyLow k = refl
 
   watched_parts : (w : Monitor) (b : Book hs ds) (v : Turn) (e : Event) → Kept hs b.entries →
-      noted_as (monitor_after hs ds w (record { entries = b.entries; devices = b.devices; turn = v }) e) ≡ turned transfers (noted_as w) (tasks hs b.entries) (turn_if v (contenders hs b.entries)) e
-  watched_parts w b opened e k = sees_as w (tasks hs b.entries) (contenders hs b.entries) e
+      monitor_after hs ds w (record { entries = b.entries; devices = b.devices; turn = v }) e ≡ turned transfers w (tasks hs b.entries) (turn_if v (contenders hs b.entries)) e
+  watched_parts w b opened e k = refl
   watched_parts w b closed e k = closed_as w b e k
 
-  pub watched_as : (w : Monitor) (b : Book hs ds) (e : Event) → Sound hs ds b → noted_as (monitor_after hs ds w b e) ≡ turned transfers (noted_as w) (tasks hs b.entries) (turn_if b.turn (contenders hs b.entries)) e
+  pub watched_as : (w : Monitor) (b : Book hs ds) (e : Event) → Sound hs ds b → monitor_after hs ds w b e ≡ turned transfers w (tasks hs b.entries) (turn_if b.turn (contenders hs b.entries)) e
   watched_as w b e k = watched_parts w b b.turn e k.kept
 
 -- marks by verdicts

@@ -15,32 +15,33 @@ use Rattle.law.specs.Bank.{Bank, bank_list}
 use Rattle.law.specs.Book.{Entry, outcome_if_least, outcomes_of_turn, told_at_stop, book_told, Turn, closed, opened, Book, least_result, devices_after, contender_results, book_after_stop, book_after}
 use Rattle.law.specs.TransferResult.{AddressedDevice, TransferResult, transfer_result}
 use Rattle.law.specs.Legal.{IsLegal}
-use Rattle.law.specs.Letter.{rank, same_string}
+use Rattle.law.specs.Letter.{Letter, zero as low, stop, restart, one, same_string}
 use Rattle.law.proofs.Sides.{Side, ends, letter, heard, after, string, last}
 use Rattle.law.proofs.Alone.CarriedAlone.{carried_alone}
 use Rattle.law.proofs.Alone.PortsSide.{ports_side}
 use Rattle.law.proofs.Alone.SlotsLeft.{slots_left}
 use Rattle.law.proofs.Alone.Statements.{opened_ports}
-use Rattle.law.proofs.Law.Contests.{same_of}
+use Rattle.law.proofs.Letters.{same_of}
 use Rattle.law.proofs.Law.Race.{at}
 use Rattle.law.proofs.View.Booked.{contenders, contenders_legal, contests_of}
-use Rattle.law.proofs.View.Carries.{LegalIf, carry, lead, lead_legal, least_is, same_ranks}
+use Rattle.law.proofs.View.Carries.{LegalIf, carry, lead, lead_legal, least_is}
 use Rattle.law.proofs.View.Lawful.{legal_at}
 use Rattle.law.proofs.View.Morphisms.{idle_same}
 use Rattle.law.proofs.View.Ranks.{carried_at}
 
 -- the letter of a slot says what the side takes in it
 module _ (D : Side) where
-  abbrev taken_by : ℕ → D.S → D.S
-  taken_by zero s = D.bit s false
-  taken_by (suc zero) s = D.finish s
-  taken_by (suc (suc zero)) s = D.begin s
-  taken_by (suc (suc (suc n))) s = D.bit s true
+  abbrev taken_by : Letter → D.S → D.S
+  taken_by low s = D.bit s false
+  taken_by stop s = D.finish s
+  taken_by restart s = D.begin s
+  taken_by one s = D.bit s true
 
-  abbrev last_letter : ℕ → Bool
-  last_letter zero = false
-  last_letter (suc zero) = true
-  last_letter (suc (suc n)) = false
+  abbrev last_letter : Letter → Bool
+  last_letter low = false
+  last_letter stop = true
+  last_letter restart = false
+  last_letter one = false
 
   after_is : (x : Symbol) (s : D.S) → after D x s ≡ taken_by (letter D x s) s
   after_is Zero s = refl
@@ -48,7 +49,7 @@ module _ (D : Side) where
   after_is RepeatedStart s = refl
   after_is ShowsStop s = refl
   after_is Listen s = go (D.pulls s) where
-    go : (v : Bool) → D.bit s (not v) ≡ taken_by (cond v 0 3) s
+    go : (v : Bool) → D.bit s (not v) ≡ taken_by (cond v low one) s
     go true = refl
     go false = refl
 
@@ -58,12 +59,12 @@ module _ (D : Side) where
   ends_is RepeatedStart s = refl
   ends_is ShowsStop s = refl
   ends_is Listen s = go (D.pulls s) where
-    go : (v : Bool) → false ≡ last_letter (cond v 0 3)
+    go : (v : Bool) → false ≡ last_letter (cond v low one)
     go true = refl
     go false = refl
 
 module _ (W : Script) (D : Side) where
-  ends_both : (v w : Bool) (ts us : List ℕ) (p q u r : D.S) → v ≡ w → p ≡ q → cond v [] ts ≡ cond w [] us → (ts ≡ us → u ≡ r) → cond v p u ≡ cond w q r
+  ends_both : (v w : Bool) (ts us : List Letter) (p q u r : D.S) → v ≡ w → p ≡ q → cond v [] ts ≡ cond w [] us → (ts ≡ us → u ≡ r) → cond v p u ≡ cond w q r
   ends_both true true ts us p q u r e f h k = f
   ends_both true false ts us p q u r e f h k = cc
   ends_both false true ts us p q u r e f h k = cc
@@ -89,7 +90,7 @@ module _ (ds : List Behaviour) (d : Bank AddressedDevice ds) where
       let n = slots_left (new_cursor t) + slots_left (new_cursor u) in
       let a = carried_alone ds t d n j (omega arith) in
       let b = carried_alone ds u d n k (omega arith) in
-      let letters = same_of (map rank (transfer_result ds t d).letters) (map rank (transfer_result ds u d).letters) (same_ranks (transfer_result ds t d).letters (transfer_result ds u d).letters ∙ h) in
+      let letters = same_of (transfer_result ds t d).letters (transfer_result ds u d).letters h in
       idle_same ds (transfer_result ds t d).devices (transfer_result ds u d).devices
       (sym a.same_devices ∙ (same_last transfers (ports_side ds) n (new_cursor t) (new_cursor u) (opened_ports ds d) (a.same_letters ∙ (letters ∙ sym b.same_letters)) ∙ b.same_devices))
 
