@@ -1,5 +1,6 @@
 -- The masters with a mark, as far as a loop over them has come.
-use Rattle.std.proofs.Common.{◌≡◌, ℕ, suc, ◌+◌, ◌<◌, Bool, true, false, cond, List, [], ◌∷◌, ◌++◌, length, get_or, take, decimal, refl, ◌∙◌, sym, arith}
+use Rattle.std.proofs.Common.{◌≡◌, ℕ, suc, ◌+◌, ◌<◌, Bool, true, false, cond, List, [], ◌∷◌, ◌++◌, length, take, decimal, refl, ◌∙◌, sym, arith}
+use Rattle.std.specs.Prelude.{slice_index_or}
 use Rattle.std.specs.List.{flat_map}
 use Rattle.std.proofs.lemmas.Grind.{flat_map-append}
 use Rattle.std.proofs.lemmas.Bool.{lt-ltb}
@@ -42,8 +43,8 @@ module _ (f : ℕ → List ℕ) (m : Mark) where
   abbrev pub so_far : ℕ → List Mark → List ℕ
   so_far i ms = flat_map f (numbers (is_mark m) 0 (take i ms))
 
-  pub next : (ms : List Mark) (i : ℕ) (d : Mark) (b : Bool) → i < length ms → is_mark m (get_or ms i d) ≡ b →
+  pub next : (ms : List Mark) (i : ℕ) (d : Mark) (b : Bool) → i < length ms → is_mark m (slice_index_or ms i d) ≡ b →
       so_far i ms ++ flat_map f (cond b (i ∷ []) []) ≡ so_far (i + 1) ms
   next ms i d b h e =
       let before = length-take-le i ms (omega arith) in
-      rw (take_more ms i d h, numbers_push (is_mark m) 0 i (take i ms) (get_or ms i d) (omega (arith, before)), e) (sym (flat_map-append f (numbers (is_mark m) 0 (take i ms)) (cond b (i ∷ []) [])))
+      rw (take_more ms i d h, numbers_push (is_mark m) 0 i (take i ms) (slice_index_or ms i d) (omega (arith, before)), e) (sym (flat_map-append f (numbers (is_mark m) 0 (take i ms)) (cond b (i ∷ []) [])))

@@ -8,9 +8,9 @@ use Rattle.master.specs.Cursor.{new_cursor, outcome_of}
 use Rattle.law.specs.Legal.{IsLegal}
 use Rattle.port.specs.Port.{PortModel}
 use Rattle.master.specs.Script.{transfers}
-use Rattle.law.proofs.Sides.{string, last, final, QuietFor}
-use Rattle.law.proofs.Alone.PortsSide.{ports_side, idle_ports}
-use Rattle.law.proofs.Alone.SlotsLeft.{slots_left}
+use Rattle.law.proofs.FarSide.{string, last, final, QuietFor}
+use Rattle.law.proofs.Alone.PortsAsSide.{ports_side, idle_ports}
+use Rattle.law.proofs.Alone.SlotsRunOut.{slots_left}
 
 module _ (ds : List Behaviour) where
   -- the ports after the start of a turn that finds these devices

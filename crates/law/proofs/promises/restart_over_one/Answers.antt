@@ -2,7 +2,7 @@ use Rattle.std.proofs.Common.{◌≡◌, ℕ, [], ◌∷◌, Ok, Result, refl, a
 use Rattle.transfer.specs.declared.draft.Transfer.{Transfer}
 use Rattle.transfer.specs.Transfer.{TransferModel, transfer_model, new_draft, after_write, after_read, after_second_leg}
 use Rattle.law.specs.WorkedExamples.{write_of, write_then_read_of}
-use Rattle.law.proofs.Exemplified.{exhibits}
+use Rattle.law.proofs.ExamplesHold.{exhibits}
 use Rattle.law.proofs.promises.restart_over_one.Goals as goal
 
 abbrev Went : TransferModel → Result (Unit {0}) ℕ × TransferModel → Type 0

@@ -1,7 +1,7 @@
-use Rattle.law.proofs.Alone.ByteLaws.{byte_laws}
-use Rattle.law.proofs.Alone.StringLaws.{string_laws}
-use Rattle.law.proofs.View.Asked.{every_asked}
-use Rattle.law.proofs.View.Beginning.{every_use_lawful}
+use Rattle.law.proofs.Alone.ByteLawsHold.{byte_laws}
+use Rattle.law.proofs.Alone.StringLawsHold.{string_laws}
+use Rattle.law.proofs.Asked.EveryAskedHolds.{every_asked}
+use Rattle.law.proofs.Bus.EveryUseLawful.{every_use_lawful}
 use Rattle.std.proofs.Common.{rules}
 use Rattle.exchange.proofs.bus.Bus.new.Goals as goal
 

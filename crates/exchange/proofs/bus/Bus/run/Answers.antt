@@ -1,5 +1,5 @@
 use Rattle.std.proofs.Common.{◌+◌, cond, sym, ap, ◌∙◌, inl, inr, add-zero, arith}
-use Rattle.law.proofs.Unheld.{run_unheld}
+use Rattle.law.proofs.WithoutHolds.{run_unheld}
 use Rattle.exchange.specs.Bus.{bus_model}
 use Rattle.exchange.proofs.Counting.{reached_none, reached_more, run_is, refused}
 use Rattle.exchange.proofs.bus.Bus.run.Goals as goal

@@ -1,5 +1,5 @@
 use Rattle.std.proofs.Common.{◌≡◌, ap, ◌∙◌, subst}
-use Rattle.law.proofs.Unheld.{tick_unheld}
+use Rattle.law.proofs.WithoutHolds.{tick_unheld}
 use Rattle.law.specs.Bus.{AllMayAnswer, levels_at}
 use Rattle.exchange.specs.Bus.{bus_model}
 use Rattle.exchange.proofs.Ticks.{levels_are, tick_is}

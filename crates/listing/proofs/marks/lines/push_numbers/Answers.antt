@@ -1,4 +1,5 @@
-use Rattle.std.proofs.Common.{◌≡◌, ℕ, ◌+◌, ◌*◌, ◌<◌, ◌≤◌, ◌++◌, ◌∷◌, [], List, length, get_or, true, false, refl, sym, ◌∙◌, arith, length-append, append-nil, append_assoc}
+use Rattle.std.proofs.Common.{◌≡◌, ℕ, ◌+◌, ◌*◌, ◌<◌, ◌≤◌, ◌++◌, ◌∷◌, [], List, length, true, false, refl, sym, ◌∙◌, arith, length-append, append-nil, append_assoc}
+use Rattle.std.specs.Prelude.{slice_index_or}
 use Rattle.std.proofs.lemmas.List.{take_all}
 use Rattle.master.specs.declared.mark.Mark.{Mark}
 use Rattle.master.specs.declared.mark.Mark.TheVariants.{Quiet}
@@ -8,7 +9,7 @@ use Rattle.listing.proofs.Masters.{marked, next, so_far}
 use Rattle.listing.proofs.marks.lines.push_numbers.Goals as goal
 use Rattle.listing.proofs.marks.lines.push_numbers.Goals.{then-eq, else-eq}
 
-one_more : (start text new before after : List ℕ) (m : Mark) (ms : List Mark) (i : ℕ) → i < length ms → is_mark m (get_or ms i Quiet) ≡ true →
+one_more : (start text new before after : List ℕ) (m : Mark) (ms : List Mark) (i : ℕ) → i < length ms → is_mark m (slice_index_or ms i Quiet) ≡ true →
     text ≡ start ++ so_far (λ n. before ++ (digit_code n ∷ after)) m i ms → new ≡ ((text ++ before) ++ (digit_code i ∷ [])) ++ after →
     new ≡ start ++ so_far (λ n. before ++ (digit_code n ∷ after)) m (i + 1) ms
 one_more start text new before after m ms i within wanted so grows =
@@ -16,7 +17,7 @@ one_more start text new before after m ms i within wanted so grows =
     let more = rw append-nil at next_one in
     rw (← more, grows, so) (simp append_assoc)
 
-no_more : (start text before after : List ℕ) (m : Mark) (ms : List Mark) (i : ℕ) → i < length ms → is_mark m (get_or ms i Quiet) ≡ false →
+no_more : (start text before after : List ℕ) (m : Mark) (ms : List Mark) (i : ℕ) → i < length ms → is_mark m (slice_index_or ms i Quiet) ≡ false →
     text ≡ start ++ so_far (λ n. before ++ (digit_code n ∷ after)) m i ms →
     text ≡ start ++ so_far (λ n. before ++ (digit_code n ∷ after)) m (i + 1) ms
 no_more start text before after m ms i within wanted so =

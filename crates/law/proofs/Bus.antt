@@ -1,0 +1,14 @@
+-- The bus of hosts and devices is such a machine, so its law holds there.
+pub mod HoldsAsOne
+pub mod TickAsMachine
+pub mod HostsAsOne
+pub mod Ranks
+pub mod LeastStringLeads
+pub mod BookAsMachine
+pub mod MonitorAsMachine
+pub mod UseAsMachine
+pub mod CallsAsSteps
+pub mod RunIsItsTicks
+pub mod CountsOfRun
+pub mod LawOfUse
+pub mod EveryUseLawful

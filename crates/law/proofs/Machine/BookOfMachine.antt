@@ -1,0 +1,399 @@
+-- Every use of a bus: the bus with its hosts, the book beside it, and what a watcher of the ticks notes.
+use Rattle.std.proofs.Common.{◌≡◌, ℕ, zero, suc, ◌+◌, ◌<◌, ◌≤◌, Bool, true, false, cond, not, ◌||◌, List, [], ◌∷◌, ◌++◌, is_some, Some, None, Ok, Err, Option, Result, map}
+use Rattle.std.specs.Prelude.{slice_index_or}
+use Rattle.std.specs.List.{list_any}
+use Rattle.std.specs.Option.{option_map}
+use Rattle.wire.specs.declared.event.Event.{Event}
+use Rattle.wire.specs.declared.event.Event.TheVariants.{Rise, Fall, Start, Stop, SteadyHigh, SteadyLow}
+use Rattle.master.specs.declared.arming.Arming.{Arming}
+use Rattle.master.specs.declared.arming.Arming.TheVariants.{Unarmed, Armed}
+use Rattle.master.specs.MasterState.{MasterModel, VerdictModel, quiet, lost, told, new_master, arm_master}
+use Rattle.master.specs.Script.{Script}
+use Rattle.wire.specs.Wire.{new_wire}
+use Rattle.transfer.specs.Limits.{most_count}
+use Rattle.law.specs.Limits.{most_letters, most_ticks_of_turn}
+use Rattle.law.proofs.FarSide.{Side}
+use Rattle.law.proofs.Machine.BusAsMachine.{Bus, tick, tick_event, tick_verdicts}
+use Rattle.law.specs.Monitor.{Monitor, letters_of_bit, monitor_after_event as sees_event}
+use Rattle.law.specs.Law.{FirstDifference}
+use Rattle.law.specs.Letter.{Letter, stop, restart, bit_letter, same_string, first_or_same}
+use Rattle.law.proofs.Machine.Arbitration.{at, Quiet, alone, alone_side, alone_end}
+
+-- for each master a task, or none
+abbrev pub Tasks : Script → Type 0
+Tasks W = List (Option W.Task)
+
+-- the hosts of all masters together
+pub record Hosts (W : Script) : Type 1 where
+  pub State : Type 0
+  -- the task that each wants, if any
+  pub wants : State → Tasks W
+  -- after each that is told an outcome has heard it
+  pub hear : State → List (Option W.Outcome) → State
+
+pub data Step : Type 0 where
+  arms : ℕ → Step
+  ticks : ℕ → Step
+
+abbrev pub Answer : Type 0
+Answer = Result (Unit {0}) ℕ
+
+abbrev pub accepted : Answer → ℕ
+accepted (Ok x) = 1
+accepted (Err n) = 0
+
+-- how many are there
+abbrev pub count : {A : Type 0} → List (Option A) → ℕ
+count [] = 0
+count (None ∷ l) = count l
+count (Some a ∷ l) = suc (count l)
+
+abbrev pub any : {A : Type 0} → List (Option A) → Bool
+any l = list_any is_some l
+
+-- arm, by the table: no such master, armed already, nothing wanted
+abbrev pub answer_if : {A : Type 0} → Option A → Option A → Answer
+answer_if (Some q) w = Err 6
+answer_if None None = Err 7
+answer_if None (Some p) = Ok tt
+
+abbrev pub armed_if : {A : Type 0} → Option A → Option A → Option A
+armed_if (Some q) w = Some q
+armed_if None w = w
+
+abbrev pub answer : {A : Type 0} → List (Option A) → List (Option A) → ℕ → Answer
+answer [] ws i = Err 5
+answer (o ∷ os) [] i = Err 5
+answer (o ∷ os) (w ∷ ws) zero = answer_if o w
+answer (o ∷ os) (w ∷ ws) (suc i) = answer os ws i
+
+abbrev pub arm_book : {A : Type 0} → List (Option A) → List (Option A) → ℕ → List (Option A)
+arm_book [] ws i = []
+arm_book (o ∷ os) [] i = o ∷ os
+arm_book (o ∷ os) (w ∷ ws) zero = armed_if o w ∷ os
+arm_book (o ∷ os) (w ∷ ws) (suc i) = o ∷ arm_book os ws i
+
+abbrev pub nobody : {A B : Type 0} → List (Option A) → List (Option B)
+nobody os = map (λ o. None) os
+
+abbrev pub disarm_one : {A B : Type 0} → Option A → Option B → Option A
+disarm_one o None = o
+disarm_one o (Some t) = None
+
+abbrev pub disarm : {A B : Type 0} → List (Option A) → List (Option B) → List (Option A)
+disarm [] ts = []
+disarm (o ∷ os) [] = o ∷ os
+disarm (o ∷ os) (t ∷ ts) = disarm_one o t ∷ disarm os ts
+
+module _ (W : Script) where
+  abbrev pub task_of : Arming W.Task → Option W.Task
+  task_of Unarmed = None
+  task_of (Armed t) = Some t
+
+  abbrev pub armeds : List (MasterModel W) → Tasks W
+  armeds ms = map (λ m. task_of m.arming) ms
+
+  -- master i pulls a line
+  abbrev pub pulling : List (MasterModel W) → ℕ → Bool
+  pulling [] i = false
+  pulling (m ∷ ms) zero = m.pulls.scl || m.pulls.sda
+  pulling (m ∷ ms) (suc i) = pulling ms i
+
+  abbrev pub is_lost : VerdictModel W → Bool
+  is_lost quiet = false
+  is_lost lost = true
+  is_lost (told o) = false
+
+  abbrev pub telling : VerdictModel W → Option W.Outcome
+  telling quiet = None
+  telling lost = None
+  telling (told o) = Some o
+
+  abbrev pub tellings : List (VerdictModel W) → List (Option W.Outcome)
+  tellings ks = map telling ks
+
+  abbrev pub arm_masters : List (MasterModel W) → Tasks W → ℕ → List (MasterModel W)
+  arm_masters [] ws i = []
+  arm_masters (m ∷ ms) [] i = m ∷ ms
+  arm_masters (m ∷ ms) (w ∷ ws) zero = (arm_master W m w).1 ∷ ms
+  arm_masters (m ∷ ms) (w ∷ ws) (suc i) = m ∷ arm_masters ms ws i
+
+  abbrev pub arm_answer : List (MasterModel W) → Tasks W → ℕ → Answer
+  arm_answer [] ws i = Err 5
+  arm_answer (m ∷ ms) [] i = Err 5
+  arm_answer (m ∷ ms) (w ∷ ws) zero = (arm_master W m w).0
+  arm_answer (m ∷ ms) (w ∷ ws) (suc i) = arm_answer ms ws i
+
+  -- where each contender begins
+  abbrev pub begin_one : Option W.Task → Option W.Cursor
+  begin_one o = option_map W.begin o
+
+  abbrev pub begins : Tasks W → List (Option W.Cursor)
+  begins l = map begin_one l
+
+module _ (W : Script) (D : Side) (left : W.Cursor → ℕ) where
+  -- a task carried alone: its string, its outcome and the side after it
+  abbrev pub task_string : W.Task → D.S → List Letter
+  task_string t s = alone W D left (W.begin t) s
+
+  abbrev pub task_outcome : W.Task → D.S → W.Outcome
+  task_outcome t s = W.outcome (alone_end W D left (W.begin t) s)
+
+  abbrev pub task_side : W.Task → D.S → D.S
+  task_side t s = alone_side W D left (W.begin t) s
+
+  abbrev pub pick : W.Task → Option W.Task → D.S → W.Task
+  pick t None s = t
+  pick t (Some u) s = cond (first_or_same (task_string t s) (task_string u s)) t u
+
+  -- the first of those with the least string
+  abbrev pub leader : Tasks W → D.S → Option W.Task
+  leader [] s = None
+  leader (None ∷ l) s = leader l s
+  leader (Some t ∷ l) s = Some (pick t (leader l s) s)
+
+  abbrev pub wins : W.Task → Option W.Task → D.S → Bool
+  wins t None s = false
+  wins t (Some u) s = same_string (task_string t s) (task_string u s)
+
+  -- each contender with the leader's string, with the outcome that it is told, carried alone
+  abbrev pub outcomes : Tasks W → Option W.Task → D.S → List (Option W.Outcome)
+  outcomes [] q s = []
+  outcomes (None ∷ l) q s = None ∷ outcomes l q s
+  outcomes (Some t ∷ l) q s = cond (wins t q s) (Some (task_outcome t s)) None ∷ outcomes l q s
+
+  abbrev pub leader_side : Option W.Task → D.S → D.S
+  leader_side None s = s
+  leader_side (Some t) s = task_side t s
+
+module _ (W : Script) (D : Side) (H : Hosts W) where
+  pub record Book : Type 0 where
+    pub hosts : H.State
+    -- the task of each master armed
+    pub armed : Tasks W
+    -- as the last stop left it
+    pub side : D.S
+    -- the contenders of the open turn
+    pub turn : Option (Tasks W)
+
+  abbrev pub book : H.State → Tasks W → D.S → Option (Tasks W) → Book
+  book a os s t = record { hosts = a; armed = os; side = s; turn = t }
+
+  abbrev pub opens : Tasks W → Option (Tasks W) → Option (Tasks W)
+  opens os None = cond (any os) (Some os) None
+  opens os (Some l) = Some l
+
+  abbrev pub feed_arm : Book → ℕ → Book
+  feed_arm b i = book b.hosts (arm_book b.armed (H.wants b.hosts) i) b.side b.turn
+
+module _ (W : Script) (D : Side) (left : W.Cursor → ℕ) (H : Hosts W) where
+  -- at a stop each contender's task is carried alone from the side that the last stop left, once it has seen the start
+  abbrev pub stop_tells : Tasks W → D.S → Option (Tasks W) → List (Option W.Outcome)
+  stop_tells os s None = nobody os
+  stop_tells os s (Some l) = outcomes W D left l (leader W D left l (D.begin s)) (D.begin s)
+
+  -- whom a tick with this event tells, by the book
+  abbrev pub book_tells : Book W D H → Event → List (Option W.Outcome)
+  book_tells b Stop = stop_tells b.armed b.side b.turn
+  book_tells b (Rise x) = nobody b.armed
+  book_tells b Fall = nobody b.armed
+  book_tells b Start = nobody b.armed
+  book_tells b SteadyHigh = nobody b.armed
+  book_tells b SteadyLow = nobody b.armed
+
+  abbrev pub feed_stop : H.State → Tasks W → D.S → Option (Tasks W) → Book W D H
+  feed_stop a os s None = book W D H a os s None
+  feed_stop a os s (Some l) =
+      let q = leader W D left l (D.begin s) in
+      let ts = outcomes W D left l q (D.begin s) in
+      book W D H (H.hear a ts) (disarm os ts) (leader_side W D left q (D.begin s)) None
+
+  abbrev pub feed : Book W D H → Event → Book W D H
+  feed b SteadyHigh = book W D H b.hosts b.armed b.side (opens W D H b.armed b.turn)
+  feed b Stop = feed_stop b.hosts b.armed b.side b.turn
+  feed b (Rise x) = b
+  feed b Fall = b
+  feed b Start = b
+  feed b SteadyLow = b
+
+-- the letters so far, and the level of the last rise, which counts at the next fall if no start or stop comes between
+pub record Spell : Type 0 where
+  pub latched : Option Bool
+  pub letters : List Letter
+
+abbrev pub spell : Option Bool → List Letter → Spell
+spell o ls = record { latched = o; letters = ls }
+
+-- once a bit that was latched has counted
+abbrev pub fallen : Option Bool → List Letter → Spell
+fallen o ls = spell None (ls ++ letters_of_bit o)
+
+abbrev pub watch : ℕ → Bool → List Bool → Spell → Monitor
+watch n r v z = record { falls = n; risen = r; marked = v; latch = z.latched; spelled = z.letters }
+
+abbrev pub falses : {A : Type 0} → List (Option A) → List Bool
+falses os = map (λ o. false) os
+
+module _ (W : Script) where
+  abbrev pub marks_too : List Bool → List (VerdictModel W) → List Bool
+  marks_too [] ks = []
+  marks_too (v ∷ vs) [] = v ∷ vs
+  marks_too (v ∷ vs) (k ∷ ks) = (v || is_lost W k) ∷ marks_too vs ks
+
+  -- a turn that opens is watched afresh
+  abbrev pub turned : Monitor → Tasks W → Option (Tasks W) → Event → Monitor
+  turned w os (Some l) e = sees_event w e
+  turned w os None SteadyHigh = cond (any os) (watch 0 false (falses os) (spell None [])) w
+  turned w os None Fall = sees_event w Fall
+  turned w os None (Rise x) = sees_event w (Rise x)
+  turned w os None Start = sees_event w Start
+  turned w os None Stop = sees_event w Stop
+  turned w os None SteadyLow = sees_event w SteadyLow
+
+  abbrev pub noted : Monitor → List (VerdictModel W) → Monitor
+  noted w ks = record w { marked = marks_too w.marked ks }
+
+  abbrev pub sees : Monitor → Tasks W → Option (Tasks W) → Event → List (VerdictModel W) → Monitor
+  sees w os t e ks = noted (turned w os t e) ks
+
+  -- the making: fresh masters with these clocks
+  abbrev pub fresh_masters : List (ℕ × ℕ) → List (MasterModel W)
+  fresh_masters [] = []
+  fresh_masters (c ∷ cs) = new_master W c.0 c.1 ∷ fresh_masters cs
+
+module _ (W : Script) (D : Side) where
+  abbrev pub tick_tells : Bus W D → List (Option W.Outcome)
+  tick_tells u = tellings W (tick_verdicts W D u)
+
+  abbrev pub arm_bus : Bus W D → Tasks W → ℕ → Bus W D
+  arm_bus u ws i = record { wire = u.wire; masters = arm_masters W u.masters ws i; side = u.side; hold = u.hold }
+
+module _ (W : Script) (D : Side) (H : Hosts W) where
+  -- a bus in use, with the book and the watcher beside it, and the arms accepted and the outcomes told so far
+  pub record Use : Type 0 where
+    pub hosts : H.State
+    pub bus : Bus W D
+    pub book : Book W D H
+    pub watch : Monitor
+    pub arms : ℕ
+    pub told : ℕ
+
+  abbrev pub made : List (ℕ × ℕ) → H.State → D.S → Use
+  made cs a s = record {
+    hosts = a;
+    bus = record { wire = new_wire; masters = fresh_masters W cs; side = s; hold = 0 };
+    book = book W D H a (armeds W (fresh_masters W cs)) s None;
+    watch = watch 0 false [] (spell None []);
+    arms = 0;
+    told = 0;
+  }
+
+module _ (W : Script) (D : Side) (left : W.Cursor → ℕ) (H : Hosts W) where
+  abbrev pub does : Use W D H → Step → Use W D H
+  does x (arms i) = record {
+    hosts = x.hosts;
+    bus = arm_bus W D x.bus (H.wants x.hosts) i;
+    book = feed_arm W D H x.book i;
+    watch = x.watch;
+    arms = x.arms + accepted (arm_answer W x.bus.masters (H.wants x.hosts) i);
+    told = x.told;
+  }
+  does x (ticks h) = record {
+    hosts = H.hear x.hosts (tick_tells W D x.bus);
+    bus = tick W D x.bus h;
+    book = feed W D left H x.book (tick_event W D x.bus);
+    watch = sees W x.watch x.book.armed x.book.turn (tick_event W D x.bus) (tick_verdicts W D x.bus);
+    arms = x.arms;
+    told = x.told + count (tick_tells W D x.bus);
+  }
+
+  abbrev pub uses : Use W D H → List Step → Use W D H
+  uses x [] = x
+  uses x (t ∷ ts) = uses (does x t) ts
+
+-- a hold answers 0 to most_count
+abbrev pub Held : List Step → Type 0
+Held [] = Unit {0}
+Held (arms i ∷ us) = Held us
+Held (ticks h ∷ us) = (h ≤ most_count) × Held us
+
+abbrev pub ticks_of : List Step → ℕ
+ticks_of [] = 0
+ticks_of (arms i ∷ us) = ticks_of us
+ticks_of (ticks h ∷ us) = suc (ticks_of us)
+
+abbrev pub Clocks : List (ℕ × ℕ) → Type 0
+Clocks [] = Unit {0}
+Clocks (c ∷ cs) = ((1 ≤ c.0) × (c.0 ≤ most_count) × (1 ≤ c.1) × (c.1 ≤ most_count)) × Clocks cs
+
+module _ (W : Script) (D : Side) (H : Hosts W) where
+  -- what holds between any two steps
+  pub record Point (x : Use W D H) : Type 0 where
+    pub hosts : x.hosts ≡ x.book.hosts
+    pub armed : armeds W x.bus.masters ≡ x.book.armed
+    pub side : x.bus.wire.busy ≡ false → x.bus.side ≡ x.book.side
+    pub arms : x.arms ≡ x.told + count x.book.armed
+    -- who was marked lost pulls neither line up to the stop
+    pub out : is_some x.book.turn ≡ true → (i : ℕ) → slice_index_or x.watch.marked i false ≡ true → pulling W x.bus.masters i ≡ false
+
+module _ (W : Script) (D : Side) (left : W.Cursor → ℕ) where
+  -- what a mark of a loss says: t is the open turn, s the side at rest, v who was marked before, and w is noted with this tick's event
+  pub record Loses (t : Option (Tasks W)) (s : D.S) (v : List Bool) (w : Monitor) (i : ℕ) : Type 0 where
+    pub turn : Tasks W
+    pub now : t ≡ Some turn
+    pub task : W.Task
+    pub contends : at turn i ≡ Some task
+    pub before : slice_index_or v i false ≡ false
+    pub risen : w.risen ≡ true
+    pub letter : ℕ
+    pub falls : w.falls ≡ suc letter
+    pub least : W.Task
+    pub leads : leader W D left turn (D.begin s) ≡ Some least
+    pub first : FirstDifference (task_string W D left least (D.begin s)) (task_string W D left task (D.begin s)) letter
+
+  -- what a stop says of a contender i with the task p: s is the side at rest, v who was marked, ts who is told
+  pub record Stopped (l : Tasks W) (s : D.S) (v : List Bool) (ts : List (Option W.Outcome)) (i : ℕ) (p : W.Task) : Type 0 where
+    -- told are those never marked
+    pub unmarked : is_some (at ts i) ≡ not (slice_index_or v i false)
+    -- and those whose string is below each contender's
+    pub least : is_some (at ts i) ≡ true → (j : ℕ) (q : W.Task) → at l j ≡ Some q → first_or_same (task_string W D left p (D.begin s)) (task_string W D left q (D.begin s)) ≡ true
+    pub wins : ((j : ℕ) (q : W.Task) → at l j ≡ Some q → first_or_same (task_string W D left p (D.begin s)) (task_string W D left q (D.begin s)) ≡ true) → is_some (at ts i) ≡ true
+
+  -- what was spelled, the stop included, is the least string
+  pub record Spelled (l : Tasks W) (s : D.S) (letters : List Letter) : Type 0 where
+    pub least : W.Task
+    pub leads : leader W D left l (D.begin s) ≡ Some least
+    pub whole : letters ≡ task_string W D left least (D.begin s)
+
+module _ (W : Script) (D : Side) (left : W.Cursor → ℕ) (H : Hosts W) where
+  pub record Ticks (x : Use W D H) : Type 0 where
+    pub tells : tick_tells W D x.bus ≡ book_tells W D left H x.book (tick_event W D x.bus)
+    pub loses : (i : ℕ) → slice_index_or (tick_verdicts W D x.bus) i quiet ≡ lost →
+        Loses W D left x.book.turn x.book.side x.watch.marked (turned W x.watch x.book.armed x.book.turn (tick_event W D x.bus)) i
+    pub stops : tick_event W D x.bus ≡ Stop → (l : Tasks W) → x.book.turn ≡ Some l → (i : ℕ) (p : W.Task) → at l i ≡ Some p →
+        Stopped W D left l x.book.side x.watch.marked (tick_tells W D x.bus) i p
+    pub spelled : tick_event W D x.bus ≡ Stop → (l : Tasks W) → x.book.turn ≡ Some l →
+        Spelled W D left l x.book.side (turned W x.watch x.book.armed x.book.turn (tick_event W D x.bus)).spelled
+
+  pub record Law (x : Use W D H) : Type 0 where
+    pub point : Point W D H x
+    pub arming : (i : ℕ) → arm_answer W x.bus.masters (H.wants x.hosts) i ≡ answer x.book.armed (H.wants x.book.hosts) i
+    pub ticking : Ticks x
+    -- so many ticks from a point with a master armed tell an outcome, whatever arms come between
+    pub told : any x.book.armed ≡ true → (us : List Step) → Held us → most_ticks_of_turn ≤ ticks_of us →
+        x.told < (uses W D left H x us).told
+
+  -- at every point of every use
+  abbrev pub EveryUse : Use W D H → Type 0
+  EveryUse x = (us : List Step) → Held us → Law (uses W D left H x us)
+
+-- what scripts, hosts and the side must satisfy; Fits: what hosts may want; Rest: how a stop leaves the side
+pub record Plays (W : Script) (D : Side) (left : W.Cursor → ℕ) (H : Hosts W) (Alike : W.Cursor → W.Cursor → Type 0) (Fits : W.Task → Type 0) (Rest : D.S → Type 0) : Type 0 where
+  pub wants : (a : H.State) (i : ℕ) (t : W.Task) → at (H.wants a) i ≡ Some t → Fits t
+  -- where nobody is told nothing changes
+  pub unheard : (a : H.State) (ts : List (Option W.Outcome)) → ((i : ℕ) → at ts i ≡ None) → H.hear a ts ≡ a
+  pub alike : (t u : W.Task) → Fits t → Fits u → Alike (W.begin t) (W.begin u)
+  pub short : (t : W.Task) → Fits t → left (W.begin t) ≤ most_letters
+  pub quiet : (t : W.Task) (s : D.S) → Fits t → Rest s → Quiet W D (W.begin t) (D.begin s)
+  pub calm : (s : D.S) → Rest s → D.pulls s ≡ false
+  pub rests : (t : W.Task) (s : D.S) → Fits t → Rest s → Rest (task_side W D left t (D.begin s))
