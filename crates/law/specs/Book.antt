@@ -1,5 +1,5 @@
 -- The turn book: who is armed, who contends, and what each host and device means, by turns alone.
-use Rattle.std.specs.Prelude.{ℕ, Bool, true, false, cond, List, [], ◌∷◌, map, Some, None, Err, Option, Result}
+use Rattle.std.specs.Prelude.{ℕ, Bool, true, false, if◌then◌else◌, List, [], ◌∷◌, map, Some, None, Err, Option, Result}
 use Rattle.std.specs.Option.{option_map}
 use Rattle.transfer.specs.declared.draft.Transfer.{Transfer}
 use Rattle.transfer.specs.Transfer.{TransferModel, transfer_model}
@@ -29,11 +29,11 @@ module _ (h : HostBehaviour) where
 
   abbrev pub entry_arm : Entry h → Result (Unit {0}) ℕ × Entry h
   entry_arm x = let a = arming_after_arm x.arming (option_map (λ t. tt) (h.want x.meaning)) in
-      (a.0, record { meaning = x.meaning; arming = a.1; contends = x.contends })
+      (a.0, record x { arming = a.1 })
 
   -- a turn opens for the masters armed
   abbrev pub entry_contending : Entry h → Entry h
-  entry_contending x = record { meaning = x.meaning; arming = x.arming; contends = entry_is_armed x }
+  entry_contending x = record x { contends = entry_is_armed x }
 
   abbrev pub wanted_if : Bool → Option Transfer → Option TransferModel
   wanted_if true want = option_map transfer_model want
@@ -45,15 +45,21 @@ module _ (h : HostBehaviour) where
 
   -- who is told is disarmed; the turn is over for all
   abbrev pub entry_after_turn : Entry h → Option OutcomeModel → Entry h
-  entry_after_turn x None = record { meaning = x.meaning; arming = x.arming; contends = false }
-  entry_after_turn x (Some o) = record { meaning = h.told x.meaning o; arming = Unarmed; contends = false }
+  entry_after_turn x None = record x { contends = false }
+  entry_after_turn x (Some o) = record {
+    meaning = h.told x.meaning o;
+    arming = Unarmed;
+    contends = false;
+  }
 
 -- past the last master the answer is 5
-abbrev pub arm_entry_at : (hs : List HostBehaviour) → Bank Entry hs → ℕ → Result (Unit {0}) ℕ × Bank Entry hs
+abbrev pub arm_entry_at : (hs : List HostBehaviour) →
+    Bank Entry hs → ℕ → Result (Unit {0}) ℕ × Bank Entry hs
 arm_entry_at hs p n = bank_update (Err 5) entry_arm hs p n
 
 -- what each master is told, in their order
-abbrev pub entries_after_turn : (hs : List HostBehaviour) → Bank Entry hs → List (Option OutcomeModel) → Bank Entry hs
+abbrev pub entries_after_turn : (hs : List HostBehaviour) →
+    Bank Entry hs → List (Option OutcomeModel) → Bank Entry hs
 entries_after_turn [] p ts = tt
 entries_after_turn (h ∷ hs) p [] = (entry_after_turn h p.0 None, entries_after_turn hs p.1 [])
 entries_after_turn (h ∷ hs) p (t ∷ ts) = (entry_after_turn h p.0 t, entries_after_turn hs p.1 ts)
@@ -62,7 +68,7 @@ module _ (ds : List Behaviour) where
   -- of two carried alone, the one whose string comes first
   abbrev pub first_of_two : TransferResult ds → Option (TransferResult ds) → TransferResult ds
   first_of_two c None = c
-  first_of_two c (Some d) = cond (first_or_same c.letters d.letters) c d
+  first_of_two c (Some d) = if first_or_same c.letters d.letters then c else d
 
   -- the one with the least string
   abbrev pub least_result : List (Option (TransferResult ds)) → Option (TransferResult ds)
@@ -73,14 +79,17 @@ module _ (ds : List Behaviour) where
   -- all with the least string are told, one outcome each
   abbrev pub outcome_if_least : TransferResult ds → Option (TransferResult ds) → Option OutcomeModel
   outcome_if_least best None = None
-  outcome_if_least best (Some c) = cond (same_string c.letters best.letters) (Some c.outcome) None
+  outcome_if_least best (Some c) =
+      if same_string c.letters best.letters then Some c.outcome else None
 
-  abbrev pub outcomes_of_turn : Option (TransferResult ds) → List (Option (TransferResult ds)) → List (Option OutcomeModel)
+  abbrev pub outcomes_of_turn : Option (TransferResult ds) → List (Option (TransferResult ds)) →
+      List (Option OutcomeModel)
   outcomes_of_turn None cs = map (λ c. None) cs
   outcomes_of_turn (Some best) cs = map (outcome_if_least best) cs
 
   -- the devices take the steps of the least string once
-  abbrev pub devices_after : Option (TransferResult ds) → Bank AddressedDevice ds → Bank AddressedDevice ds
+  abbrev pub devices_after : Option (TransferResult ds) →
+      Bank AddressedDevice ds → Bank AddressedDevice ds
   devices_after None d = d
   devices_after (Some best) d = best.devices
 
@@ -99,11 +108,13 @@ module _ (hs : List HostBehaviour) (ds : List Behaviour) where
     pub turn : Turn
 
   abbrev pub book_arm : Book → ℕ → Result (Unit {0}) ℕ × Book
-  book_arm b n = let a = arm_entry_at hs b.entries n in (a.0, record { entries = a.1; devices = b.devices; turn = b.turn })
+  book_arm b n = let a = arm_entry_at hs b.entries n in (a.0, record b { entries = a.1 })
 
   -- each contender's want carried alone from the devices
   abbrev pub contender_results : Book → List (Option (TransferResult ds))
-  contender_results b = bank_list (λ h x. option_map (λ t. transfer_result ds t b.devices) (contender_transfer h x)) hs b.entries
+  contender_results b = bank_list
+      (λ h x. option_map (λ t. transfer_result ds t b.devices) (contender_transfer h x))
+      hs b.entries
 
   abbrev pub nobody_told : Book → List (Option OutcomeModel)
   nobody_told b = bank_list (λ h x. None) hs b.entries
@@ -111,11 +122,14 @@ module _ (hs : List HostBehaviour) (ds : List Behaviour) where
   -- a turn opens for the masters armed, if any
   abbrev pub book_after_opening : Book → Turn → Book
   book_after_opening b opened = b
-  book_after_opening b closed = let any = any_true (bank_list entry_is_armed hs b.entries) in
-      cond any (record { entries = bank_map entry_contending hs b.entries; devices = b.devices; turn = opened }) b
+  book_after_opening b closed =
+      if any_true (bank_list entry_is_armed hs b.entries)
+      then record b { entries = bank_map entry_contending hs b.entries; turn = opened }
+      else b
 
   abbrev pub told_at_stop : Book → Turn → List (Option OutcomeModel)
-  told_at_stop b opened = outcomes_of_turn ds (least_result ds (contender_results b)) (contender_results b)
+  told_at_stop b opened =
+      outcomes_of_turn ds (least_result ds (contender_results b)) (contender_results b)
   told_at_stop b closed = nobody_told b
 
   abbrev pub book_after_stop : Book → Turn → Book

@@ -25,7 +25,8 @@ all_pulls [] = no_pulls
 all_pulls (p ∷ ps) = pulls_or p (all_pulls ps)
 
 -- past the last master the answer is 5
-abbrev pub arm_master_at : (hs : List HostBehaviour) → Bank HostedMaster hs → ℕ → Result (Unit {0}) ℕ × Bank HostedMaster hs
+abbrev pub arm_master_at : (hs : List HostBehaviour) →
+    Bank HostedMaster hs → ℕ → Result (Unit {0}) ℕ × Bank HostedMaster hs
 arm_master_at hs p n = bank_update (Err 5) hosted_arm hs p n
 
 -- an answer to hold
@@ -35,12 +36,14 @@ HoldAnswer = (n : ℕ) × (n < 256)
 abbrev pub HoldAnswers : List Behaviour → Type 0
 HoldAnswers ds = Bank (λ d. HoldAnswer) ds
 
-abbrev pub ports_step : (ds : List Behaviour) → Bank PortModel ds → Signal → HoldAnswers ds → Bank PortModel ds
+abbrev pub ports_step : (ds : List Behaviour) →
+    Bank PortModel ds → Signal → HoldAnswers ds → Bank PortModel ds
 ports_step [] p s hs = tt
 ports_step (d ∷ ds) p s hs = (port_step d p.0 s hs.0.0, ports_step ds p.1 s hs.1)
 
 -- where a port asks for hold, its answer is one that its device may give
-abbrev pub AllMayAnswer : (ds : List Behaviour) → Bank PortModel ds → Signal → HoldAnswers ds → Type 0
+abbrev pub AllMayAnswer : (ds : List Behaviour) →
+    Bank PortModel ds → Signal → HoldAnswers ds → Type 0
 AllMayAnswer [] p s hs = Unit {0}
 AllMayAnswer (d ∷ ds) p s hs = MayAnswer d p.0 s hs.0.0 × AllMayAnswer ds p.1 s hs.1
 
@@ -62,7 +65,11 @@ marks_over (x ∷ xs) (y ∷ ys) = x ∷ marks_over xs ys
 
 -- every clock count is 1 to most_count
 abbrev pub ClocksInRange : (hs : List HostBehaviour) → Bank HostedMaster hs → Type 0
-ClocksInRange hs ms = BankAll (λ h x. (1 ≤ x.master.low) × (x.master.low ≤ most_count) × (1 ≤ x.master.high) × (x.master.high ≤ most_count)) hs ms
+ClocksInRange hs ms = BankAll
+    (λ h x.
+      (1 ≤ x.master.low) × (x.master.low ≤ most_count) ×
+      (1 ≤ x.master.high) × (x.master.high ≤ most_count))
+    hs ms
 
 module _ (hs : List HostBehaviour) (ds : List Behaviour) where
   pub record BusModel : Type 0 where
@@ -71,17 +78,24 @@ module _ (hs : List HostBehaviour) (ds : List Behaviour) where
     pub ports : Bank PortModel ds
 
   abbrev pub new_bus : Bank HostedMaster hs → Bank PortModel ds → BusModel
-  new_bus ms ps = record { wire = new_wire; masters = bank_map hosted_new hs ms; ports = bank_map reset_port ds ps }
+  new_bus ms ps = record {
+    wire = new_wire;
+    masters = bank_map hosted_new hs ms;
+    ports = bank_map reset_port ds ps;
+  }
 
-  abbrev pub with_masters : BusModel → Result (Unit {0}) ℕ × Bank HostedMaster hs → Result (Unit {0}) ℕ × BusModel
-  with_masters u a = (a.0, record { wire = u.wire; masters = a.1; ports = u.ports })
+  abbrev pub with_masters : BusModel → Result (Unit {0}) ℕ × Bank HostedMaster hs →
+      Result (Unit {0}) ℕ × BusModel
+  with_masters u a = (a.0, record u { masters = a.1 })
 
   abbrev pub arm_at : BusModel → ℕ → Result (Unit {0}) ℕ × BusModel
   arm_at u n = with_masters u (arm_master_at hs u.masters n)
 
   -- the levels of the next tick
   abbrev pub levels_at : BusModel → Levels
-  levels_at u = levels_of (pulls_or (all_pulls (bank_list hosted_pulls hs u.masters)) (all_pulls (bank_list port_pulls ds u.ports)))
+  levels_at u = levels_of (pulls_or
+      (all_pulls (bank_list hosted_pulls hs u.masters))
+      (all_pulls (bank_list port_pulls ds u.ports)))
 
   -- what the levels v make of the bus, where the ports' questions for hold are answered by a
   abbrev pub after_levels : BusModel → Levels → HoldAnswers ds → BusModel
@@ -92,7 +106,9 @@ module _ (hs : List HostBehaviour) (ds : List Behaviour) where
   }
 
   abbrev pub marks_at : BusModel → Levels → List Mark
-  marks_at u v = marks_over (bank_list (λ h. hosted_mark h (signal u.wire v)) hs u.masters) (replicate most_masters Quiet)
+  marks_at u v = marks_over
+      (bank_list (λ h. hosted_mark h (signal u.wire v)) hs u.masters)
+      (replicate most_masters Quiet)
 
   abbrev pub tick_shown : BusModel → Levels → Tick
   tick_shown u v = record { levels = v; event = event_between u.wire.last v; marks = marks_at u v }

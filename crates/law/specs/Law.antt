@@ -32,13 +32,16 @@ module _ (hs : List HostBehaviour) (ds : List Behaviour) where
   -- what holds at every point
   pub record Point (x : Use hs ds) : Type 0 where
     -- hosts stand as in the book at every point, devices whenever the bus is free
-    pub hosts : bank_map (λ h y. y.meaning) hs x.bus.masters ≡ bank_map (λ h y. y.meaning) hs x.book.entries
-    pub devices : x.bus.wire.busy ≡ false → bank_map addressed_device ds x.bus.ports ≡ x.book.devices
+    pub hosts :
+        bank_map (λ h y. y.meaning) hs x.bus.masters ≡ bank_map (λ h y. y.meaning) hs x.book.entries
+    pub devices : x.bus.wire.busy ≡ false →
+        bank_map addressed_device ds x.bus.ports ≡ x.book.devices
     pub armed : armed_now hs ds x ≡ bank_list entry_is_armed hs x.book.entries
     -- accepted arms are outcomes told and masters armed
     pub counts : x.accepted ≡ x.told + true_count (armed_now hs ds x)
     -- who was marked lost in the open turn pulls neither line
-    pub silent : x.book.turn ≡ opened → (i : ℕ) → slice_index_or x.watch.marked i false ≡ true →
+    pub silent : x.book.turn ≡ opened →
+        (i : ℕ) → slice_index_or x.watch.marked i false ≡ true →
         slice_index_or (bank_list hosted_pulls hs x.bus.masters) i no_pulls ≡ no_pulls
 
   -- what a mark of a loss in the next tick says of master i
@@ -55,25 +58,35 @@ module _ (hs : List HostBehaviour) (ds : List Behaviour) where
     pub risen : (monitor_after hs ds x.watch x.book (event_at hs ds x.bus)).risen ≡ true
     pub first : FirstDifference best.letters own.letters letter
 
-  -- what the stop in the next tick says of a contender i: told are those never marked lost, and those whose string comes first
+  -- what the stop in the next tick says of a contender i: told are those never marked lost, and those
+  -- whose string comes first
   pub record StopTells (x : Use hs ds) (i : ℕ) (own : TransferResult ds) : Type 0 where
-    pub unmarked : is_some (slice_index_or (told_at hs ds x.bus) i None) ≡ not (slice_index_or x.watch.marked i false)
+    pub unmarked : is_some (slice_index_or (told_at hs ds x.bus) i None) ≡
+        not (slice_index_or x.watch.marked i false)
     pub first : (is_some (slice_index_or (told_at hs ds x.bus) i None) ≡ true) ↔
-        ((j : ℕ) (other : TransferResult ds) → slice_index_or (contender_results hs ds x.book) j None ≡ Some other → first_or_same own.letters other.letters ≡ true)
+        ((j : ℕ) (other : TransferResult ds) →
+        slice_index_or (contender_results hs ds x.book) j None ≡ Some other →
+        first_or_same own.letters other.letters ≡ true)
 
   -- what holds of the next tick
   pub record TickLaw (x : Use hs ds) : Type 0 where
     pub tells : told_at hs ds x.bus ≡ book_told hs ds x.book (event_at hs ds x.bus)
-    -- it shows the levels, the event and the marks of which this law speaks; a number without a master has the mark Quiet.
-    -- A mark tells of an outcome exactly where one is told
-    pub shows : (a : HoldAnswers ds) → (tick_at hs ds x.bus a).0 ≡
-        record { levels = levels_at hs ds x.bus; event = event_at hs ds x.bus; marks = marks_over (marks_of hs ds x.bus) (replicate most_masters Quiet) }
+    -- it shows the levels, the event and the marks of which this law speaks; a number without a
+    -- master has the mark Quiet
+    pub shows : (a : HoldAnswers ds) → (tick_at hs ds x.bus a).0 ≡ record {
+      levels = levels_at hs ds x.bus;
+      event = event_at hs ds x.bus;
+      marks = marks_over (marks_of hs ds x.bus) (replicate most_masters Quiet);
+    }
+    -- a mark tells of an outcome exactly where one is told
     pub marks : map is_told (marks_of hs ds x.bus) ≡ map is_some (told_at hs ds x.bus)
     pub loses : (i : ℕ) → slice_index_or (marks_of hs ds x.bus) i Quiet ≡ Lost → Loses x i
-    pub stops : event_at hs ds x.bus ≡ Stop → x.book.turn ≡ opened → (i : ℕ) (own : TransferResult ds) →
+    pub stops : event_at hs ds x.bus ≡ Stop → x.book.turn ≡ opened →
+        (i : ℕ) (own : TransferResult ds) →
         slice_index_or (contender_results hs ds x.book) i None ≡ Some own → StopTells x i own
     -- what was spelled is the least string
-    pub spells : event_at hs ds x.bus ≡ Stop → x.book.turn ≡ opened → (best : TransferResult ds) → least_result ds (contender_results hs ds x.book) ≡ Some best →
+    pub spells : event_at hs ds x.bus ≡ Stop → x.book.turn ≡ opened →
+        (best : TransferResult ds) → least_result ds (contender_results hs ds x.book) ≡ Some best →
         (monitor_after hs ds x.watch x.book (event_at hs ds x.bus)).spelled ≡ best.letters
 
   pub record Law (x : Use hs ds) : Type 0 where
@@ -82,14 +95,22 @@ module _ (hs : List HostBehaviour) (ds : List Behaviour) where
     -- an arm answers as the book's
     pub arm : (n : ℕ) → (arm_at hs ds x.bus n).0 ≡ (book_arm hs ds x.book n).0
     -- a run counts the outcomes told in it
-    pub run : (n : ℕ) (a : ℕ → HoldAnswers ds) → n ≤ most_ticks → (r : RunModel) → (run_at hs ds x.bus n a).0 ≡ Ok r →
-        ((use_after_call hs ds x (runs n a)).told ≡ x.told + r.outcomes) × (ticks_of_call hs ds x (runs n a) ≡ r.ticks)
+    pub run : (n : ℕ) (a : ℕ → HoldAnswers ds) → n ≤ most_ticks →
+        (r : RunModel) → (run_at hs ds x.bus n a).0 ≡ Ok r →
+        ((use_after_call hs ds x (runs n a)).told ≡ x.told + r.outcomes) ×
+        (ticks_of_call hs ds x (runs n a) ≡ r.ticks)
     -- and leaves the bus of this use, also where it is refused
-    pub run_leaves : (n : ℕ) (a : ℕ → HoldAnswers ds) → (run_at hs ds x.bus n a).1 ≡ (use_after_call hs ds x (runs n a)).bus
-    -- calls may be made tick by tick, with the same use after as many ticks, so that the law holds within a run too
-    pub runs_are_ticks : (cs : List (Call hs ds)) → (use_after hs ds x cs ≡ use_after hs ds x (in_ticks hs ds x cs)) × (ticks_of hs ds x cs ≡ ticks_of hs ds x (in_ticks hs ds x cs))
+    pub run_leaves : (n : ℕ) (a : ℕ → HoldAnswers ds) →
+        (run_at hs ds x.bus n a).1 ≡ (use_after_call hs ds x (runs n a)).bus
+    -- calls may be made tick by tick, with the same use after as many ticks, so that the law holds
+    -- within a run too
+    pub runs_are_ticks : (cs : List (Call hs ds)) →
+        (use_after hs ds x cs ≡ use_after hs ds x (in_ticks hs ds x cs)) ×
+        (ticks_of hs ds x cs ≡ ticks_of hs ds x (in_ticks hs ds x cs))
     -- from a point with a master armed so many ticks tell an outcome, whatever calls they come from
-    pub lively : any_true (armed_now hs ds x) ≡ true → (cs : List (Call hs ds)) → most_ticks_of_turn ≤ ticks_of hs ds x cs → x.told < (use_after hs ds x cs).told
+    pub lively : any_true (armed_now hs ds x) ≡ true →
+        (cs : List (Call hs ds)) → most_ticks_of_turn ≤ ticks_of hs ds x cs →
+        x.told < (use_after hs ds x cs).told
 
   -- the law at every point of every use of a bus from its making
   abbrev pub EveryUse : Bank HostedMaster hs → Bank PortModel ds → Type 0

@@ -1,4 +1,4 @@
--- Which transfers are legal: no reserved address, no more bytes than a leg may have, and a read of at least one.
+-- Legal transfers: no reserved address, no more bytes than a leg may have, a read of at least one.
 use Rattle.std.specs.Prelude.{◌≤◌, length, Some, None, Option}
 use Rattle.transfer.specs.Transfer.{TransferModel}
 use Rattle.transfer.specs.Leg.{BodyModel, writes, reads, LegModel}

@@ -1,5 +1,5 @@
 -- Letters and strings: what a transfer puts on the lines, and which string comes first.
-use Rattle.std.specs.Prelude.{ℕ, Bool, true, false, cond, List, [], ◌∷◌, ◌==◌, nat_lt}
+use Rattle.std.specs.Prelude.{ℕ, Bool, true, false, if◌then◌else◌, List, [], ◌∷◌, ◌==◌, nat_lt}
 use Rattle.std.specs.Cmp.Lexicographic.{pointwise}
 
 -- a bit, a stop or a repeated start
@@ -27,4 +27,5 @@ same_string ts us = pointwise same_letter ts us
 abbrev pub first_or_same : List Letter → List Letter → Bool
 first_or_same [] us = true
 first_or_same (t ∷ ts) [] = false
-first_or_same (t ∷ ts) (u ∷ us) = cond (same_letter t u) (first_or_same ts us) (nat_lt (rank t) (rank u))
+first_or_same (t ∷ ts) (u ∷ us) =
+    if same_letter t u then first_or_same ts us else nat_lt (rank t) (rank u)

@@ -26,7 +26,7 @@ abbrev pub letters_of_bit : Option Bool → List Letter
 letters_of_bit None = []
 letters_of_bit (Some b) = bit_letter b ∷ []
 
--- a start before the first fall is the turn's own and spells nothing; any later one is a repeated start
+-- a start before the first fall is the turn's own and spells nothing; a later one is repeated
 abbrev pub monitor_after_start : ℕ → Monitor → Monitor
 monitor_after_start zero w = w
 monitor_after_start (suc n) w = record w { latch = None; spelled = w.spelled ++ (restart ∷ []) }

@@ -1,5 +1,5 @@
 -- A run: ticks until the bus is at rest or so many are made, and its load.
-use Rattle.std.specs.Prelude.{◌≡◌, ℕ, zero, suc, ◌+◌, ◌*◌, ◌/◌, Bool, true, false, cond, List, is_some, Ok, Err, Option, Result, ◌==◌, nat_lt}
+use Rattle.std.specs.Prelude.{◌≡◌, ℕ, zero, suc, ◌+◌, ◌*◌, ◌/◌, Bool, true, false, if◌then◌else◌, List, is_some, Ok, Err, Option, Result, ◌==◌, nat_lt}
 use Rattle.std.specs.List.{count_by}
 use Rattle.device.specs.Device.{Behaviour}
 use Rattle.host.specs.Host.{HostBehaviour}
@@ -17,7 +17,7 @@ told_count ms = count_by is_told ms
 
 -- busy ticks in thousandths of all, a half rounded up; 0 for no ticks
 abbrev pub load : ℕ → ℕ → ℕ
-load busy ticks = cond (ticks == 0) 0 ((2000 * busy + ticks) / (2 * ticks))
+load busy ticks = if ticks == 0 then 0 else (2000 * busy + ticks) / (2 * ticks)
 
 pub record RunModel : Type 0 where
   pub ticks : ℕ
@@ -41,25 +41,28 @@ module _ (hs : List HostBehaviour) (ds : List Behaviour) where
     bus = u;
     ticks = suc r.ticks;
     outcomes = r.outcomes + some_count (told_at hs ds r.bus);
-    busy = r.busy + cond u.wire.busy 1 0;
+    busy = r.busy + (if u.wire.busy then 1 else 0);
   }
 
-  -- at most n ticks more, where the ports' questions for hold in tick k of the run are answered by a k
+  -- at most n ticks more, where hold in tick k of the run is answered by a k
   abbrev pub run_after_ticks : ℕ → (ℕ → HoldAnswers ds) → Running → Running
   run_after_ticks zero a r = r
-  run_after_ticks (suc n) a r = cond (is_at_rest hs ds r.bus) r (run_after_ticks n a (run_after_tick r (a r.ticks)))
+  run_after_ticks (suc n) a r =
+      if is_at_rest hs ds r.bus then r else run_after_ticks n a (run_after_tick r (a r.ticks))
 
   -- in each of these ticks the answers are ones that the devices may give
   abbrev pub RunTicksAnswered : ℕ → (ℕ → HoldAnswers ds) → Running → Type 0
   RunTicksAnswered zero a r = Unit {0}
-  RunTicksAnswered (suc n) a r = is_at_rest hs ds r.bus ≡ false → Answered hs ds r.bus (a r.ticks) × RunTicksAnswered n a (run_after_tick r (a r.ticks))
+  RunTicksAnswered (suc n) a r = is_at_rest hs ds r.bus ≡ false →
+      Answered hs ds r.bus (a r.ticks) × RunTicksAnswered n a (run_after_tick r (a r.ticks))
 
   abbrev pub run_report : Running → RunModel
   run_report r = record { ticks = r.ticks; outcomes = r.outcomes; load = load r.busy r.ticks }
 
   -- more ticks than a run may make are refused with 8
   abbrev pub run_at : BusModel hs ds → ℕ → (ℕ → HoldAnswers ds) → Result RunModel ℕ × BusModel hs ds
-  run_at u n a = cond (nat_lt most_ticks n) (Err 8, u) (let r = run_after_ticks n a (run_start u) in (Ok (run_report r), r.bus))
+  run_at u n a = let r = run_after_ticks n a (run_start u) in
+      if nat_lt most_ticks n then (Err 8, u) else (Ok (run_report r), r.bus)
 
   -- in each tick of such a run the answers are ones that the devices may give
   abbrev pub RunAnswered : BusModel hs ds → ℕ → (ℕ → HoldAnswers ds) → Type 0

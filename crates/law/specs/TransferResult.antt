@@ -1,5 +1,5 @@
--- A transfer carried alone over the ports, byte by byte: its string, its outcome and the devices after it.
-use Rattle.std.specs.Prelude.{ℕ, zero, suc, ◌+◌, ◌*◌, Bool, true, false, cond, List, [], ◌∷◌, ◌++◌, map, Some, None, Option, ◌==◌, bit_and}
+-- A transfer carried alone over the ports, byte by byte: its string, its outcome, the devices after.
+use Rattle.std.specs.Prelude.{ℕ, zero, suc, ◌+◌, ◌*◌, Bool, true, false, if◌then◌else◌, List, [], ◌∷◌, ◌++◌, map, Some, None, Option, ◌==◌, bit_and}
 use Rattle.transfer.specs.declared.leg.Direction.{Direction}
 use Rattle.transfer.specs.declared.outcome.OutcomeKind.{OutcomeKind}
 use Rattle.transfer.specs.declared.outcome.OutcomeKind.TheVariants.{Done, NoAnswer, Refused}
@@ -30,26 +30,32 @@ module _ (b : Behaviour) where
 
   -- a leg selects at every port that matches, and a device that says yes is in
   abbrev pub device_after_call : ℕ → Direction → AddressedDevice b → DeviceInLeg b
-  device_after_call asked r d = cond (answers_to d.address asked) (device_after_select d (b.select d.meaning r)) (device_after_select d (false, d.meaning))
+  device_after_call asked r d =
+      if answers_to d.address asked
+      then device_after_select d (b.select d.meaning r)
+      else device_after_select d (false, d.meaning)
 
   abbrev pub device_after_put : DeviceInLeg b → Bool × b.Meaning → DeviceInLeg b
-  device_after_put d a = record { address = d.address; meaning = a.1; yes = d.yes; inside = a.0 }
+  device_after_put d a = record d { meaning = a.1; inside = a.0 }
 
   -- a written byte is put to all that are in, and a no puts out
   abbrev pub device_put : ℕ → DeviceInLeg b → DeviceInLeg b
-  device_put x d = cond d.inside (device_after_put d (b.put d.meaning x)) d
+  device_put x d = if d.inside then device_after_put d (b.put d.meaning x) else d
 
   -- a byte is taken from all that are in
   abbrev pub device_after_take : DeviceInLeg b → DeviceInLeg b
-  device_after_take d = cond d.inside (record { address = d.address; meaning = (b.take d.meaning).1; yes = d.yes; inside = true }) d
+  device_after_take d = if d.inside then record d { meaning = (b.take d.meaning).1; inside = true } else d
 
   -- the byte that a device gives; one that is not in gives all ones
   abbrev pub byte_given_by : DeviceInLeg b → ℕ
-  byte_given_by d = cond d.inside (b.take d.meaning).0 255
+  byte_given_by d = if d.inside then (b.take d.meaning).0 else 255
 
   -- a device that said yes since the last start is finished
   abbrev pub device_after_leg : DeviceInLeg b → AddressedDevice b
-  device_after_leg d = record { address = d.address; meaning = cond d.yes (b.finish d.meaning) d.meaning }
+  device_after_leg d = record {
+    address = d.address;
+    meaning = if d.yes then b.finish d.meaning else d.meaning;
+  }
 
   abbrev pub is_in : DeviceInLeg b → Bool
   is_in d = d.inside
@@ -66,11 +72,14 @@ call_byte a (reads n) = a * 2 + 1
 
 -- the levels of a byte, and its acknowledge: true is N
 abbrev pub byte_levels : ℕ → Bool → List Bool
-byte_levels x nack = bit_at x 7 ∷ bit_at x 6 ∷ bit_at x 5 ∷ bit_at x 4 ∷ bit_at x 3 ∷ bit_at x 2 ∷ bit_at x 1 ∷ bit_at x 0 ∷ nack ∷ []
+byte_levels x nack =
+    bit_at x 7 ∷ bit_at x 6 ∷ bit_at x 5 ∷ bit_at x 4 ∷
+    bit_at x 3 ∷ bit_at x 2 ∷ bit_at x 1 ∷ bit_at x 0 ∷
+    nack ∷ []
 
 module _ (ds : List Behaviour) where
-  -- what a leg came to: the levels that it carried, the bytes read, what came of it, and the devices in it
   pub record LegResult : Type 0 where
+    -- the levels that it carried, and the bytes read
     pub levels : List Bool
     pub bytes : List ℕ
     pub kind : OutcomeKind
@@ -81,7 +90,7 @@ module _ (ds : List Behaviour) where
 
   -- after one byte more in front
   abbrev pub with_byte : List Bool → List ℕ → LegResult → LegResult
-  with_byte ls xs r = record { levels = ls ++ r.levels; bytes = xs ++ r.bytes; kind = r.kind; devices = r.devices }
+  with_byte ls xs r = record r { levels = ls ++ r.levels; bytes = xs ++ r.bytes }
 
   abbrev pub any_in : Bank DeviceInLeg ds → Bool
   any_in d = any_true (bank_list is_in ds d)
@@ -90,9 +99,9 @@ module _ (ds : List Behaviour) where
   abbrev pub write_result : ℕ → List ℕ → ℕ → Bank DeviceInLeg ds → LegResult
   write_result k [] n d = leg_end Done d
   write_result k (x ∷ xs) n d = let e = bank_map (λ b. device_put b x) ds d in
-      cond (any_in e)
-      (with_byte (byte_levels x false) [] (write_result k xs (suc n) e))
-      (with_byte (byte_levels x true) [] (leg_end (Refused (record { leg = k; byte = n })) e))
+      if any_in e
+      then with_byte (byte_levels x false) [] (write_result k xs (suc n) e)
+      else with_byte (byte_levels x true) [] (leg_end (Refused (record { leg = k; byte = n })) e)
 
   -- so many bytes; the master acknowledges with 0 if more follow and 1 at the last
   abbrev pub read_result : ℕ → Bank DeviceInLeg ds → LegResult
@@ -106,10 +115,12 @@ module _ (ds : List Behaviour) where
 
   -- leg number k
   abbrev pub leg_result : ℕ → LegModel → Bank AddressedDevice ds → LegResult
-  leg_result k g d = let e = bank_map (λ b. device_after_call b g.address (body_direction g.body)) ds d in let x = call_byte g.address g.body in
-      cond (any_in e)
-      (with_byte (byte_levels x false) [] (body_result k g.body e))
-      (with_byte (byte_levels x true) [] (leg_end (NoAnswer (record { leg = k })) e))
+  leg_result k g d =
+      let e = bank_map (λ b. device_after_call b g.address (body_direction g.body)) ds d in
+      let x = call_byte g.address g.body in
+      if any_in e
+      then with_byte (byte_levels x false) [] (body_result k g.body e)
+      else with_byte (byte_levels x true) [] (leg_end (NoAnswer (record { leg = k })) e)
 
   pub record TransferResult : Type 0 where
     pub letters : List Letter
@@ -132,8 +143,9 @@ module _ (ds : List Behaviour) where
 
   -- a repeated start and the second leg, where there is one and the first was done
   abbrev pub result_after_leg : LegResult → OutcomeKind → Option LegModel → TransferResult
-  result_after_leg r Done (Some g) = let q = result_at_stop r.bytes (leg_result 1 g (bank_map device_after_leg ds r.devices)) in
-      record { letters = map bit_letter r.levels ++ (restart ∷ q.letters); outcome = q.outcome; devices = q.devices }
+  result_after_leg r Done (Some g) =
+      let q = result_at_stop r.bytes (leg_result 1 g (bank_map device_after_leg ds r.devices)) in
+      record q { letters = map bit_letter r.levels ++ (restart ∷ q.letters) }
   result_after_leg r Done None = result_at_stop [] r
   result_after_leg r (NoAnswer p) o = result_at_stop [] r
   result_after_leg r (Refused p) o = result_at_stop [] r

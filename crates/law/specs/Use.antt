@@ -71,9 +71,11 @@ module _ (hs : List HostBehaviour) (ds : List Behaviour) where
       then new_monitor (bank_list (λ h x. false) hs b.entries)
       else monitor_after_event w e
 
-  -- what was asked in a turn, once the next tick is made; it begins anew where no turn is open before the tick
+  -- what was asked in a turn, once the next tick is made; it begins anew where no turn is open
   abbrev pub steps_then : Use → List (List Step)
-  steps_then x = lists_appended (if is_open x.book.turn then x.asked else no_steps x.bus) (steps_at x.bus)
+  steps_then x = lists_appended
+      (if is_open x.book.turn then x.asked else no_steps x.bus)
+      (steps_at x.bus)
 
   abbrev pub use_after_arm : Use → Result (Unit {0}) ℕ × BusModel hs ds → ℕ → Use
   use_after_arm x a n = record x {
