@@ -58,8 +58,8 @@ module _ (hs : List HostBehaviour) (ds : List Behaviour) where
     pub risen : (monitor_after hs ds x.watch x.book (event_at hs ds x.bus)).risen ≡ true
     pub first : FirstDifference best.letters own.letters letter
 
-  -- what the stop in the next tick says of a contender i: told are those never marked lost, and those
-  -- whose string comes first
+  -- what the stop in the next tick says of a contender i: told are those never marked lost, and
+  -- those whose string comes first
   pub record StopTells (x : Use hs ds) (i : ℕ) (own : TransferResult ds) : Type 0 where
     pub unmarked : is_some (slice_index_or (told_at hs ds x.bus) i None) ≡
         not (slice_index_or x.watch.marked i false)

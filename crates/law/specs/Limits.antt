@@ -31,8 +31,8 @@ most_letters = most_legs * letters_of_leg + (most_legs - 1) + 1
 abbrev pub ticks_of_low : ℕ
 ticks_of_low = most_count + 1
 
--- the longest high, after the rise: the tick of a repeated start, the high count from there, and the
--- tick in which SCL falls
+-- the longest high, after the rise: the tick of a repeated start, the high count from there, and
+-- the tick in which SCL falls
 abbrev pub ticks_of_high : ℕ
 ticks_of_high = 1 + most_count + 1
 

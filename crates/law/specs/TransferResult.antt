@@ -1,4 +1,5 @@
--- A transfer carried alone over the ports, byte by byte: its string, its outcome, the devices after.
+-- A transfer carried alone over the ports, byte by byte: its string, its outcome, the devices
+-- after.
 use Rattle.std.specs.Prelude.{ℕ, zero, suc, ◌+◌, ◌*◌, Bool, true, false, if◌then◌else◌, List, [], ◌∷◌, ◌++◌, map, Some, None, Option, ◌==◌, bit_and}
 use Rattle.transfer.specs.declared.leg.Direction.{Direction}
 use Rattle.transfer.specs.declared.outcome.OutcomeKind.{OutcomeKind}
@@ -44,7 +45,8 @@ module _ (b : Behaviour) where
 
   -- a byte is taken from all that are in
   abbrev pub device_after_take : DeviceInLeg b → DeviceInLeg b
-  device_after_take d = if d.inside then record d { meaning = (b.take d.meaning).1; inside = true } else d
+  device_after_take d =
+      if d.inside then record d { meaning = (b.take d.meaning).1; inside = true } else d
 
   -- the byte that a device gives; one that is not in gives all ones
   abbrev pub byte_given_by : DeviceInLeg b → ℕ

@@ -40,7 +40,11 @@ abbrev pub two_hosts : List HostBehaviour
 two_hosts = list_host ∷ list_host ∷ []
 
 abbrev pub entry : Transfer → Entry list_host
-entry t = record { meaning = record { rest = t ∷ []; last = None }; arming = Unarmed; contends = false }
+entry t = record {
+  meaning = record { rest = t ∷ []; last = None };
+  arming = Unarmed;
+  contends = false;
+}
 
 module _ (b : Behaviour) where
   abbrev pub device_at_50 : b.Meaning → Bank AddressedDevice (b ∷ [])
@@ -51,19 +55,29 @@ module _ (b : Behaviour) where
   alone t m = transfer_result (b ∷ []) t (device_at_50 m)
 
   abbrev pub book : Transfer → Transfer → b.Meaning → Book two_hosts (b ∷ [])
-  book f g m = record { entries = (entry f, (entry g, tt)); devices = device_at_50 m; turn = closed }
+  book f g m = record {
+    entries = (entry f, (entry g, tt));
+    devices = device_at_50 m;
+    turn = closed;
+  }
 
   -- both are armed, and a turn opens for them
   abbrev pub open_book : Transfer → Transfer → b.Meaning → Book two_hosts (b ∷ [])
-  open_book f g m = book_after two_hosts (b ∷ []) (book_arm two_hosts (b ∷ []) (book_arm two_hosts (b ∷ []) (book f g m) 0).1 1).1 SteadyHigh
+  open_book f g m =
+      let first = (book_arm two_hosts (b ∷ []) (book f g m) 0).1 in
+      let second = (book_arm two_hosts (b ∷ []) first 1).1 in
+      book_after two_hosts (b ∷ []) second SteadyHigh
 
-  -- at the stop of the turn of f and g from the device m: who is told what, what the device then means, and who is still armed
-  pub record EndOfTurn (f g : Transfer) (m : b.Meaning) (told_0 told_1 : Option OutcomeModel) (after : b.Meaning)
+  -- at the stop of the turn of f and g from the device m: who is told what, what the device then
+  -- means, and who is still armed
+  pub record EndOfTurn (f g : Transfer) (m : b.Meaning)
+      (told_0 told_1 : Option OutcomeModel) (after : b.Meaning)
       (arming_0 arming_1 : Arming (Unit {0})) : Type 0 where
     pub told : book_told two_hosts (b ∷ []) (open_book f g m) Stop ≡ told_0 ∷ told_1 ∷ []
     pub device : (book_after two_hosts (b ∷ []) (open_book f g m) Stop).devices ≡ device_at_50 after
     pub first : (book_after two_hosts (b ∷ []) (open_book f g m) Stop).entries.0.arming ≡ arming_0
-    pub second : (book_after two_hosts (b ∷ []) (open_book f g m) Stop).entries.1.0.arming ≡ arming_1
+    pub second :
+        (book_after two_hosts (b ∷ []) (open_book f g m) Stop).entries.1.0.arming ≡ arming_1
 
 abbrev pub write_of : List ℕ → TransferModel
 write_of xs = record { first = record { address = 0x50; body = writes xs }; second = None }
@@ -72,7 +86,10 @@ abbrev pub read_of : ℕ → TransferModel
 read_of n = record { first = record { address = 0x50; body = reads n }; second = None }
 
 abbrev pub write_then_read_of : List ℕ → ℕ → TransferModel
-write_then_read_of xs n = record { first = record { address = 0x50; body = writes xs }; second = Some (record { address = 0x50; body = reads n }) }
+write_then_read_of xs n = record {
+  first = record { address = 0x50; body = writes xs };
+  second = Some (record { address = 0x50; body = reads n });
+}
 
 -- to an address that no port has
 abbrev pub write_elsewhere : List ℕ → TransferModel
@@ -92,7 +109,8 @@ stored_at_3 p = record { bytes = slice_set (replicate 16 0) 3 0x12; pointer = p;
 abbrev pub busy_registers : ℕ → RegisterFileModel → BusyModel register_file
 busy_registers n m = record { number = 1; left = n; selection = Closed; below = m }
 
--- a transfer carried alone to one device at 0x50, letter by letter: a row for each byte and its acknowledge, a repeated start or a stop
+-- a transfer carried alone to one device at 0x50, letter by letter: a row for each byte and its
+-- acknowledge, a repeated start or a stop
 pub record StringExamples : Type 0 where
   -- a write of 03: A0 and 03, each acknowledged with 0
   pub write_of_one : alone register_file (write_of (0x03 ∷ [])) new_registers ≡ record {
@@ -119,16 +137,18 @@ pub record StringExamples : Type 0 where
     outcome = record { kind = NoAnswer (record { leg = 0 }); bytes = [] };
     devices = device_at_50 event_queue (0x12 ∷ []);
   }
-  -- a write of 10 and 12: the register file takes no pointer above 0F, so 10 is not acknowledged, and 12 is not sent
+  -- a write of 10 and 12: the register file takes no pointer above 0F, so 10 is not acknowledged,
+  -- and 12 is not sent
   pub put_gets_no : alone register_file (write_of (0x10 ∷ 0x12 ∷ [])) new_registers ≡ record {
     letters =
         one ∷ zero ∷ one ∷ zero ∷ zero ∷ zero ∷ zero ∷ zero ∷ zero ∷
         zero ∷ zero ∷ zero ∷ one ∷ zero ∷ zero ∷ zero ∷ zero ∷ one ∷
         stop ∷ [];
     outcome = record { kind = Refused (record { leg = 0; byte = 0 }); bytes = [] };
-    devices = device_at_50 register_file (record { bytes = replicate 16 0; pointer = 0; awaits = true });
+    devices = device_at_50 register_file (record new_registers { awaits = true });
   }
-  -- a read of 2 from a queue of 12 and C5: A1, acknowledged; the master's own acknowledge is 0 after 12, and 1 after C5, the last
+  -- a read of 2 from a queue of 12 and C5: A1, acknowledged; the master's own acknowledge is 0
+  -- after 12, and 1 after C5, the last
   pub read_of_two : alone event_queue (read_of 2) (0x12 ∷ 0xC5 ∷ []) ≡ record {
     letters =
         one ∷ zero ∷ one ∷ zero ∷ zero ∷ zero ∷ zero ∷ one ∷ zero ∷
@@ -139,7 +159,8 @@ pub record StringExamples : Type 0 where
     devices = device_at_50 event_queue [];
   }
   -- a write of 03, a repeated start and a read of 1: the register file gives the byte at 3
-  pub write_then_read : alone register_file (write_then_read_of (0x03 ∷ []) 1) (stored_at_3 0) ≡ record {
+  pub write_then_read :
+      alone register_file (write_then_read_of (0x03 ∷ []) 1) (stored_at_3 0) ≡ record {
     letters =
         one ∷ zero ∷ one ∷ zero ∷ zero ∷ zero ∷ zero ∷ zero ∷ zero ∷
         zero ∷ zero ∷ zero ∷ zero ∷ zero ∷ zero ∷ one ∷ one ∷ zero ∷
@@ -150,8 +171,10 @@ pub record StringExamples : Type 0 where
     outcome = record { kind = Done; bytes = 0x12 ∷ [] };
     devices = device_at_50 register_file (stored_at_3 4);
   }
-  -- the same transfer with a busy layer: it is finished at the repeated start, so it says no to the select for the read
-  pub finish_at_restart : alone (busy_over register_file) (write_then_read_of (0x03 ∷ []) 1) (busy_registers 0 new_registers) ≡ record {
+  -- the same transfer with a busy layer: it is finished at the repeated start, so it says no to the
+  -- select for the read
+  pub finish_at_restart : alone (busy_over register_file)
+      (write_then_read_of (0x03 ∷ []) 1) (busy_registers 0 new_registers) ≡ record {
     letters =
         one ∷ zero ∷ one ∷ zero ∷ zero ∷ zero ∷ zero ∷ zero ∷ zero ∷
         zero ∷ zero ∷ zero ∷ zero ∷ zero ∷ zero ∷ one ∷ one ∷ zero ∷
@@ -162,7 +185,8 @@ pub record StringExamples : Type 0 where
     devices = device_at_50 (busy_over register_file) (busy_registers 0 (registers_at 3));
   }
   -- a write of 03 with a busy layer: it is finished at the stop, so it will say no to one select
-  pub finish_at_stop : alone (busy_over register_file) (write_of (0x03 ∷ [])) (busy_registers 0 new_registers) ≡ record {
+  pub finish_at_stop : alone (busy_over register_file)
+      (write_of (0x03 ∷ [])) (busy_registers 0 new_registers) ≡ record {
     letters =
         one ∷ zero ∷ one ∷ zero ∷ zero ∷ zero ∷ zero ∷ zero ∷ zero ∷
         zero ∷ zero ∷ zero ∷ zero ∷ zero ∷ zero ∷ one ∷ one ∷ zero ∷
@@ -171,43 +195,56 @@ pub record StringExamples : Type 0 where
     devices = device_at_50 (busy_over register_file) (busy_registers 1 (registers_at 3));
   }
 
--- the first of two transfers to a fresh register file wins over the second, whichever master sends it, reads these bytes, and leaves the register file so
+-- the first of two transfers to a fresh register file wins over the second, whichever master sends
+-- it, reads these bytes, and leaves the register file so
 abbrev pub Wins : TransferModel → TransferModel → List ℕ → RegisterFileModel → Type 0
 Wins a b xs after = (f g : Transfer) → transfer_model f ≡ a → transfer_model g ≡ b →
     EndOfTurn register_file f g new_registers (done_with xs) None after Unarmed (Armed tt)
     × EndOfTurn register_file g f new_registers None (done_with xs) after (Armed tt) Unarmed
 
 -- two transfers of which the first wins so over the second
-pub record Exhibits (a b : TransferModel) (xs : List ℕ) (after : RegisterFileModel) (f g : Transfer) : Type 0 where
+pub record Exhibits (a b : TransferModel) (xs : List ℕ) (after : RegisterFileModel)
+    (f g : Transfer) : Type 0 where
   pub first_is : transfer_model f ≡ a
   pub second_is : transfer_model g ≡ b
-  pub first_wins : EndOfTurn register_file f g new_registers (done_with xs) None after Unarmed (Armed tt)
-  pub wins_as_second : EndOfTurn register_file g f new_registers None (done_with xs) after (Armed tt) Unarmed
+  pub first_wins :
+      EndOfTurn register_file f g new_registers (done_with xs) None after Unarmed (Armed tt)
+  pub wins_as_second :
+      EndOfTurn register_file g f new_registers None (done_with xs) after (Armed tt) Unarmed
 
 pub record TurnExamples : Type 0 where
   pub stop_over_one : Wins (write_of (0x03 ∷ [])) (write_of (0x03 ∷ 0x80 ∷ [])) [] (registers_at 3)
   pub zero_over_stop : Wins (write_of (0x03 ∷ 0x00 ∷ [])) (write_of (0x03 ∷ [])) [] (registers_at 4)
-  pub stop_over_restart : Wins (write_of (0x03 ∷ [])) (write_then_read_of (0x03 ∷ []) 1) [] (registers_at 3)
-  pub restart_over_one : Wins (write_then_read_of (0x03 ∷ []) 1) (write_of (0x03 ∷ 0x80 ∷ [])) (0 ∷ []) (registers_at 4)
+  pub stop_over_restart :
+      Wins (write_of (0x03 ∷ [])) (write_then_read_of (0x03 ∷ []) 1) [] (registers_at 3)
+  pub restart_over_one :
+      Wins (write_then_read_of (0x03 ∷ []) 1) (write_of (0x03 ∷ 0x80 ∷ []))
+      (0 ∷ []) (registers_at 4)
   pub more_over_fewer : Wins (read_of 3) (read_of 2) (0 ∷ 0 ∷ 0 ∷ []) (registers_at 3)
-  -- two equal writes are one turn that tells both; the device takes its steps once, as a busy layer shows
-  pub equal_writes : (f g : Transfer) → transfer_model f ≡ write_of (0x03 ∷ 0x12 ∷ []) → transfer_model g ≡ write_of (0x03 ∷ 0x12 ∷ []) →
-      EndOfTurn (busy_over register_file) f g (busy_registers 0 new_registers) (done_with []) (done_with [])
-      (busy_registers 1 (stored_at_3 4)) Unarmed Unarmed
+  -- two equal writes are one turn that tells both; the device takes its steps once, as a busy layer
+  -- shows
+  pub equal_writes : (f g : Transfer) →
+      transfer_model f ≡ write_of (0x03 ∷ 0x12 ∷ []) →
+      transfer_model g ≡ write_of (0x03 ∷ 0x12 ∷ []) →
+      EndOfTurn (busy_over register_file) f g (busy_registers 0 new_registers)
+      (done_with []) (done_with []) (busy_registers 1 (stored_at_3 4)) Unarmed Unarmed
 
 -- two queues at one address
 abbrev pub two_queues : List Behaviour
 two_queues = event_queue ∷ event_queue ∷ []
 
 abbrev pub queues : List ℕ → List ℕ → Bank AddressedDevice two_queues
-queues xs ys = (record { address = 0x51; meaning = xs }, (record { address = 0x51; meaning = ys }, tt))
+queues xs ys =
+    (record { address = 0x51; meaning = xs }, (record { address = 0x51; meaning = ys }, tt))
 
 abbrev pub read_queue : TransferModel
 read_queue = record { first = record { address = 0x51; body = reads 1 }; second = None }
 
 pub record QueueExample : Type 0 where
-  pub joined : (transfer_result two_queues read_queue (queues (0x3C ∷ []) (0x5A ∷ []))).outcome ≡ record { kind = Done; bytes = 0x18 ∷ [] }
-  pub taken : (transfer_result two_queues read_queue (queues (0x3C ∷ []) (0x5A ∷ []))).devices ≡ queues [] []
+  pub joined : (transfer_result two_queues read_queue (queues (0x3C ∷ []) (0x5A ∷ []))).outcome ≡
+      record { kind = Done; bytes = 0x18 ∷ [] }
+  pub taken : (transfer_result two_queues read_queue (queues (0x3C ∷ []) (0x5A ∷ []))).devices ≡
+      queues [] []
 
 pub record WorkedExamples : Type 0 where
   pub refusals : RefusedExamples
