@@ -174,15 +174,15 @@ module _ (hs : List HostBehaviour) (ds : List Behaviour) where
   -- in the next tick, a fall, a contender hears A after the call of leg k and m bytes written in
   -- it: for the call where m is 0, and otherwise for the last of these bytes
   pub record HearsA (x : Use hs ds) (t : TransferModel) (k : ℕ) (g : LegModel) (m : ℕ) : Type 0
-      where
-    pub turn : x.book.turn ≡ opened
-    pub fall : event_at hs ds x.bus ≡ Fall
-    pub leg : leg_of t k ≡ Some g
-    pub bytes : m ≤ body_writes g.body
-    pub so_far : List Letter
-    pub place : length so_far ≡ acknowledge_at t k m
-    pub acknowledge :
-        (monitor_after hs ds x.watch x.book Fall).spelled ≡ so_far ++ (Letter.zero ∷ [])
+    where
+      pub turn : x.book.turn ≡ opened
+      pub fall : event_at hs ds x.bus ≡ Fall
+      pub leg : leg_of t k ≡ Some g
+      pub bytes : m ≤ body_writes g.body
+      pub so_far : List Letter
+      pub place : length so_far ≡ acknowledge_at t k m
+      pub acknowledge :
+          (monitor_after hs ds x.watch x.book Fall).spelled ≡ so_far ++ (Letter.zero ∷ [])
 
   -- what holds of the steps asked
   pub record AskedLaw (x : Use hs ds) : Type 0 where

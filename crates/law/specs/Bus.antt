@@ -67,8 +67,8 @@ marks_over (x ∷ xs) (y ∷ ys) = x ∷ marks_over xs ys
 abbrev pub ClocksInRange : (hs : List HostBehaviour) → Bank HostedMaster hs → Type 0
 ClocksInRange hs ms = BankAll
     (λ h x.
-      (1 ≤ x.master.low) × (x.master.low ≤ most_count) ×
-      (1 ≤ x.master.high) × (x.master.high ≤ most_count))
+    (1 ≤ x.master.low) × (x.master.low ≤ most_count) ×
+    (1 ≤ x.master.high) × (x.master.high ≤ most_count))
     hs ms
 
 module _ (hs : List HostBehaviour) (ds : List Behaviour) where

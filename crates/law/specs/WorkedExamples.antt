@@ -161,39 +161,39 @@ pub record StringExamples : Type 0 where
   -- a write of 03, a repeated start and a read of 1: the register file gives the byte at 3
   pub write_then_read :
       alone register_file (write_then_read_of (0x03 ∷ []) 1) (stored_at_3 0) ≡ record {
-    letters =
-        one ∷ zero ∷ one ∷ zero ∷ zero ∷ zero ∷ zero ∷ zero ∷ zero ∷
-        zero ∷ zero ∷ zero ∷ zero ∷ zero ∷ zero ∷ one ∷ one ∷ zero ∷
-        restart ∷
-        one ∷ zero ∷ one ∷ zero ∷ zero ∷ zero ∷ zero ∷ one ∷ zero ∷
-        zero ∷ zero ∷ zero ∷ one ∷ zero ∷ zero ∷ one ∷ zero ∷ one ∷
-        stop ∷ [];
-    outcome = record { kind = Done; bytes = 0x12 ∷ [] };
-    devices = device_at_50 register_file (stored_at_3 4);
-  }
+        letters =
+            one ∷ zero ∷ one ∷ zero ∷ zero ∷ zero ∷ zero ∷ zero ∷ zero ∷
+            zero ∷ zero ∷ zero ∷ zero ∷ zero ∷ zero ∷ one ∷ one ∷ zero ∷
+            restart ∷
+            one ∷ zero ∷ one ∷ zero ∷ zero ∷ zero ∷ zero ∷ one ∷ zero ∷
+            zero ∷ zero ∷ zero ∷ one ∷ zero ∷ zero ∷ one ∷ zero ∷ one ∷
+            stop ∷ [];
+        outcome = record { kind = Done; bytes = 0x12 ∷ [] };
+        devices = device_at_50 register_file (stored_at_3 4);
+      }
   -- the same transfer with a busy layer: it is finished at the repeated start, so it says no to the
   -- select for the read
   pub finish_at_restart : alone (busy_over register_file)
       (write_then_read_of (0x03 ∷ []) 1) (busy_registers 0 new_registers) ≡ record {
-    letters =
-        one ∷ zero ∷ one ∷ zero ∷ zero ∷ zero ∷ zero ∷ zero ∷ zero ∷
-        zero ∷ zero ∷ zero ∷ zero ∷ zero ∷ zero ∷ one ∷ one ∷ zero ∷
-        restart ∷
-        one ∷ zero ∷ one ∷ zero ∷ zero ∷ zero ∷ zero ∷ one ∷ one ∷
-        stop ∷ [];
-    outcome = record { kind = NoAnswer (record { leg = 1 }); bytes = [] };
-    devices = device_at_50 (busy_over register_file) (busy_registers 0 (registers_at 3));
-  }
+        letters =
+            one ∷ zero ∷ one ∷ zero ∷ zero ∷ zero ∷ zero ∷ zero ∷ zero ∷
+            zero ∷ zero ∷ zero ∷ zero ∷ zero ∷ zero ∷ one ∷ one ∷ zero ∷
+            restart ∷
+            one ∷ zero ∷ one ∷ zero ∷ zero ∷ zero ∷ zero ∷ one ∷ one ∷
+            stop ∷ [];
+        outcome = record { kind = NoAnswer (record { leg = 1 }); bytes = [] };
+        devices = device_at_50 (busy_over register_file) (busy_registers 0 (registers_at 3));
+      }
   -- a write of 03 with a busy layer: it is finished at the stop, so it will say no to one select
   pub finish_at_stop : alone (busy_over register_file)
       (write_of (0x03 ∷ [])) (busy_registers 0 new_registers) ≡ record {
-    letters =
-        one ∷ zero ∷ one ∷ zero ∷ zero ∷ zero ∷ zero ∷ zero ∷ zero ∷
-        zero ∷ zero ∷ zero ∷ zero ∷ zero ∷ zero ∷ one ∷ one ∷ zero ∷
-        stop ∷ [];
-    outcome = record { kind = Done; bytes = [] };
-    devices = device_at_50 (busy_over register_file) (busy_registers 1 (registers_at 3));
-  }
+        letters =
+            one ∷ zero ∷ one ∷ zero ∷ zero ∷ zero ∷ zero ∷ zero ∷ zero ∷
+            zero ∷ zero ∷ zero ∷ zero ∷ zero ∷ zero ∷ one ∷ one ∷ zero ∷
+            stop ∷ [];
+        outcome = record { kind = Done; bytes = [] };
+        devices = device_at_50 (busy_over register_file) (busy_registers 1 (registers_at 3));
+      }
 
 -- the first of two transfers to a fresh register file wins over the second, whichever master sends
 -- it, reads these bytes, and leaves the register file so
