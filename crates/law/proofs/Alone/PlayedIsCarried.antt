@@ -1,25 +1,37 @@
 -- A transfer played bit by bit is the transfer carried byte by byte.
-use Rattle.std.proofs.Common.{◌≡◌, ℕ, List, [], ◌∷◌, ◌++◌, map, Some, None, Option, sym, refl, ap, ◌∙◌, subst, arith}
+use Rattle.std.proofs.Common.{◌≡◌, ℕ, ◌≤◌, List, [], ◌∷◌, ◌++◌, map, Some, None, Option, sym, refl, ap, ◌∙◌, subst, arith}
 use Rattle.transfer.specs.declared.outcome.OutcomeKind.{OutcomeKind}
 use Rattle.transfer.specs.declared.outcome.OutcomeKind.TheVariants.{Done, NoAnswer, Refused}
 use Rattle.transfer.specs.Transfer.{TransferModel}
 use Rattle.transfer.specs.Leg.{LegModel}
 use Rattle.device.specs.Device.{Behaviour}
 use Rattle.law.specs.Bank.{Bank, bank_map}
-use Rattle.law.specs.TransferResult.{AddressedDevice, DeviceInLeg, device_after_leg, leg_result, TransferResult, result_at_stop, result_after_leg, outcome_of_kind}
+use Rattle.law.specs.TransferResult.{AddressedDevice, DeviceInLeg, device_after_leg, leg_result, TransferResult, result_at_stop, result_after_leg, outcome_of_kind, transfer_result}
 use Rattle.master.specs.Cursor.{at_end, at_restart, in_leg, Notes, CursorModel, cursor_at, new_cursor, outcome_of, reported_bytes}
 use Rattle.port.specs.Port.{PortModel}
 use Rattle.master.specs.Script.{transfers}
 use Rattle.law.specs.Letter.{Letter, stop, restart, bit_letter}
-use Rattle.law.specs.Legal.{IsLegalLeg, IsLegalSecond}
+use Rattle.law.specs.Legal.{IsLegalLeg, IsLegalSecond, IsLegal}
+use Rattle.law.proofs.FarSide.{string, last, final, QuietFor}
 use Rattle.law.proofs.Alone.LegBitByBit.{notes, closing, leg_plays}
 use Rattle.law.proofs.Alone.PortsWithinByte.{addressing_at, Rests, opened_is}
 use Rattle.law.proofs.Alone.PortsAsSide.{ports_side, idle_ports}
 use Rattle.law.proofs.Alone.SlotsOfLevels.{Comes, through, restarts}
 use Rattle.law.proofs.Alone.SlotsRunOut.{slots_left, some_left, fewer}
-use Rattle.law.proofs.Alone.Statements.{CarriedAlone}
 
 module _ (ds : List Behaviour) where
+  -- the ports after the start of a turn that finds these devices
+  abbrev pub opened_ports : Bank AddressedDevice ds → Bank PortModel ds
+  opened_ports d = (ports_side ds).begin (idle_ports ds d)
+
+  -- within n slots a transfer played bit by bit comes to what it comes to byte by byte
+  pub record Agrees (t : TransferModel) (d : Bank AddressedDevice ds) (n : ℕ) : Type 0 where
+    pub same_letters : string transfers (ports_side ds) n (new_cursor t) (opened_ports d) ≡ (transfer_result ds t d).letters
+    pub same_outcome : outcome_of (final transfers (ports_side ds) n (new_cursor t) (opened_ports d)) ≡ (transfer_result ds t d).outcome
+    pub same_devices : last transfers (ports_side ds) n (new_cursor t) (opened_ports d) ≡ idle_ports ds (transfer_result ds t d).devices
+    -- the ports pull SDA only where the script listens
+    pub quiet : (m : ℕ) → QuietFor transfers (ports_side ds) m (new_cursor t) (opened_ports d)
+
   abbrev Goes : CursorModel → Bank PortModel ds → List Letter → CursorModel → Bank PortModel ds → Type 0
   Goes c s ts e u = Comes transfers (ports_side ds) slots_left c s ts e u
 
@@ -86,7 +98,7 @@ module _ (ds : List Behaviour) where
             (λ u q. subst (λ z. Goes (closing z (Some f) (notes 0 r.bytes 0 z)) u ts (cursor_at at_end n) (after_stop w.devices)) (sym i) (goes_again f r.bytes r.devices u j q));
       }
 
-  pub carried_alone : CarriedAlone ds
+  pub carried_alone : (t : TransferModel) (d : Bank AddressedDevice ds) (n : ℕ) → IsLegal t → slots_left (new_cursor t) ≤ n → Agrees t d n
   carried_alone t d n h b = let p = plays t.first t.second d h.first_leg h.second_leg (leg_result ds 0 t.first d).kind refl in
       let c = p.comes in
       record {

@@ -15,13 +15,12 @@ use Rattle.master.specs.Script.{Script, transfers}
 use Rattle.law.specs.Letter.{Letter, stop, restart, one, rank, bit_letter, first_or_same}
 use Rattle.law.proofs.FarSide.{Side, ends, heard, after, string}
 use Rattle.law.proofs.Alone.CursorsStayAlike.{open_alike}
-use Rattle.law.proofs.Alone.PlayedIsCarried.{carried_alone}
+use Rattle.law.proofs.Alone.PlayedIsCarried.{opened_ports, carried_alone}
 use Rattle.law.specs.Legal.{IsLegal}
 use Rattle.law.specs.Limits.{most_letters}
 use Rattle.law.specs.Facts.{WithoutStop, OneStop, IsParting, IsBit, ZeroAgainstOne, condition, SameConditions, StringLaws}
 use Rattle.law.proofs.Alone.PortsAsSide.{ports_side}
 use Rattle.law.proofs.Alone.SlotsRunOut.{slots_left, at_most}
-use Rattle.law.proofs.Alone.Statements.{opened_ports}
 use Rattle.law.proofs.LetterByRank.{same_rank, cases_letter}
 use Rattle.law.proofs.Alone.StringSaysOutcome.{Twins, same_end}
 

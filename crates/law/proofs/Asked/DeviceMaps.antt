@@ -20,10 +20,9 @@ use Rattle.law.specs.Legal.{IsLegal}
 use Rattle.law.specs.Letter.{zero as low, one}
 use Rattle.law.proofs.FarSide.{Side, ends, letter, heard, after, string, last, final}
 use Rattle.law.proofs.Alone.StepsOfBanks.{any}
-use Rattle.law.proofs.Alone.PlayedIsCarried.{carried_alone}
+use Rattle.law.proofs.Alone.PlayedIsCarried.{opened_ports, carried_alone}
 use Rattle.law.proofs.Alone.PortsAsSide.{counting, pulling, ports_side, idle_ports, placed}
 use Rattle.law.proofs.Alone.SlotsRunOut.{slots_left}
-use Rattle.law.proofs.Alone.Statements.{opened_ports}
 
 -- a map of the meanings of one behaviour to those of another that commutes with all four steps
 pub record Morphism (b c : Behaviour) : Type 0 where

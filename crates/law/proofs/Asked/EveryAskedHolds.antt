@@ -34,7 +34,7 @@ use Rattle.law.proofs.Alone.IdleBetweenTurns.{Idle}
 use Rattle.law.proofs.Alone.PortsAsSide.{unheld, ports_side, placed}
 use Rattle.law.proofs.Asked.RecordAfterA.{noted_by, played_reached}
 use Rattle.law.proofs.Alone.SlotsRunOut.{slots_left}
-use Rattle.law.proofs.Alone.Statements.{opened_ports}
+use Rattle.law.proofs.Alone.PlayedIsCarried.{opened_ports}
 use Rattle.law.proofs.Asked.UnmarkedAsAlone.{ForNow, StillIn as LawStillIn, carried_so_far}
 use Rattle.law.proofs.Asked.NotingBusAlongside.{ports_stay, Alongside, same_event, same_marks, same_told, asked_many, asked_noted, one_more, first_noting, Beside, beside}
 use Rattle.law.proofs.Bus.EveryUseLawful.{StandsAt, every_use_lawful, every_use_stands}

@@ -10,11 +10,10 @@ use Rattle.master.specs.Cursor.{new_cursor}
 use Rattle.port.specs.Port.{PortModel}
 use Rattle.master.specs.Script.{transfers}
 use Rattle.law.specs.Letter.{Letter, same_string, first_or_same}
-use Rattle.law.proofs.Alone.PlayedIsCarried.{carried_alone}
+use Rattle.law.proofs.Alone.PlayedIsCarried.{Agrees, opened_ports, carried_alone}
 use Rattle.law.specs.Legal.{IsLegal}
 use Rattle.law.proofs.Alone.PortsAsSide.{ports_side, idle_ports}
 use Rattle.law.proofs.Alone.SlotsRunOut.{slots_left}
-use Rattle.law.proofs.Alone.Statements.{Agrees, opened_ports}
 use Rattle.law.proofs.Machine.BookOfMachine.{task_string, task_outcome, task_side, pick, leader, wins, outcomes, leader_side}
 
 abbrev pub LegalIf : Option TransferModel → Type 0
