@@ -1,8 +1,10 @@
 -- All ports together as one far side, and a script played alone against it, slot by slot.
-use Rattle.std.proofs.Common.{◌≡◌, ℕ, zero, suc, Bool, true, false, cond, not, List, [], ◌∷◌}
+use Rattle.std.proofs.Common.{◌≡◌, ℕ, zero, suc, Bool, true, false, cond, not, List, [], ◌∷◌, Some, None, Option}
 use Rattle.master.specs.declared.symbol.Symbol.{Symbol}
 use Rattle.master.specs.declared.symbol.Symbol.TheVariants.{Zero, One, Listen, RepeatedStart, Stop}
 use Rattle.master.specs.Script.{Script}
+use Rattle.wire.specs.declared.event.Event.{Event}
+use Rattle.wire.specs.declared.event.Event.TheVariants.{Rise, Fall, Start, Stop as Stopped, SteadyHigh, SteadyLow}
 use Rattle.law.specs.Letter.{Letter, zero as low, stop, restart, one}
 
 pub record Side : Type 1 where
@@ -43,6 +45,21 @@ module _ (D : Side) where
   after RepeatedStart s = D.begin s
   after One s = D.bit s true
   after Listen s = D.bit s (not (D.pulls s))
+
+module _ (D : Side) where
+  -- the side once it has taken the bit that counts, if any
+  abbrev pub taken : Option Bool → D.S → D.S
+  taken None s = s
+  taken (Some b) s = D.bit s b
+
+  -- what the side makes of an event of the wire, with the bit that counts at it
+  abbrev pub side_after : D.S → Event → Option Bool → D.S
+  side_after s Fall o = taken o s
+  side_after s Start o = D.begin s
+  side_after s Stopped o = D.finish s
+  side_after s (Rise b) o = s
+  side_after s SteadyHigh o = s
+  side_after s SteadyLow o = s
 
 module _ (W : Script) (D : Side) where
   -- within n slots: the string that a cursor carries alone, the side at its end, and the cursor that shows the stop

@@ -4,8 +4,8 @@ use Rattle.std.proofs.lemmas.Bool.{cases_lt, lt-ltb, le-ltb}
 use Rattle.transfer.specs.Transfer.{TransferModel}
 use Rattle.transfer.specs.Leg.{LegModel}
 use Rattle.master.specs.declared.symbol.Symbol.{Symbol}
-use Rattle.master.specs.declared.symbol.Symbol.TheVariants.{Zero, One, Listen, RepeatedStart, Stop}
-use Rattle.master.specs.Cursor.{Play, at_end, at_restart, in_leg, CursorModel, new_cursor, is_write, master_sends, leg_size, symbol_in_leg, symbol_of, cursor_next}
+use Rattle.master.specs.declared.symbol.Symbol.TheVariants.{Listen, Stop}
+use Rattle.master.specs.Cursor.{Play, at_end, at_restart, in_leg, CursorModel, new_cursor, is_write, master_sends, leg_size, symbol_in_leg, symbol_of}
 use Rattle.master.specs.Script.{transfers}
 use Rattle.law.proofs.Machine.Arbitration.{Laws}
 use Rattle.law.proofs.FarSide.{ends}
@@ -49,34 +49,11 @@ AlikePlay p q = Same p q ⊎ Apart p q
 abbrev pub Alike : CursorModel → CursorModel → Type 0
 Alike c e = AlikePlay c.play e.play
 
-abbrev pub listens : Symbol → Bool
-listens Zero = false
-listens One = false
-listens Listen = true
-listens RepeatedStart = false
-listens Stop = false
-
--- a byte of one's own is listened to in its ninth bit, and one that is read in its first eight
-abbrev silent : Bool → ℕ → Bool
-silent true b = ltb 7 b
-silent false b = ltb b 8
-
 pub same_own : (f g : LegModel) (y b : ℕ) → OneWay f g y b → master_sends f y ≡ master_sends g y
 same_own f g y b h = grind arith
 
 both_listen : (p q : Play) → AlikePlay p q → symbol_of p ≡ Listen → symbol_of q ≡ Listen
 both_listen p q h k = grind arith
-
--- a bit, a listen or an end
-abbrev sort : Symbol → ℕ
-sort Zero = 0
-sort One = 0
-sort Listen = 1
-sort RepeatedStart = 2
-sort Stop = 3
-
-apart : (p q : Play) → (sort (symbol_of p) ≡ 1 → ⊥) → (sort (symbol_of q) ≡ 1 → ⊥) → (sort (symbol_of p) ≡ sort (symbol_of q) → ⊥) → AlikePlay p q
-apart p q h k e = grind arith
 
 module _ (f g : LegModel) (m o : Option LegModel) (hf : IsLegalLeg f × IsLegalSecond m) (hg : IsLegalLeg g × IsLegalSecond o) (y : ℕ) where
   abbrev Goes : Bool → Bool → Type 0

@@ -2,10 +2,10 @@
 use Rattle.std.proofs.Common.{◌≡◌, ℕ, zero, suc, ◌-◌, ◌/◌, ◌<◌, ◌≤◌, Bool, true, false, not, ltb, ◌⊎◌, List, [], ◌∷◌, ◌++◌, map, sym, refl, ap, ◌∙◌, div-one, arith}
 use native.Mathlib.Nat.{div-eq_of_lt}
 use Rattle.master.specs.declared.symbol.Symbol.{Symbol}
-use Rattle.master.specs.declared.symbol.Symbol.TheVariants.{Listen, RepeatedStart, Stop}
+use Rattle.master.specs.declared.symbol.Symbol.TheVariants.{Listen, RepeatedStart}
 use Rattle.wire.specs.ByteProgress.{bit_at, shift_in}
 use Rattle.master.specs.Script.{Script}
-use Rattle.law.specs.Letter.{Letter, stop, restart, bit_letter}
+use Rattle.law.specs.Letter.{Letter, restart, bit_letter}
 use Rattle.master.specs.Symbol.{bit_symbol}
 use Rattle.law.proofs.FarSide.{Side, ends, letter, heard, after, string, last, final, QuietFor}
 use Rattle.law.proofs.Alone.BitsOfByte.{shifted_digit}
@@ -86,6 +86,3 @@ module _ (W : Script) (D : Side) (slots_left : W.Cursor → ℕ) where
     pub restarts : (c : W.Cursor) (s : D.S) (ts : List Letter) (e : W.Cursor) (u : D.S) → W.symbol c ≡ RepeatedStart → D.pulls s ≡ false →
         Comes (W.next c true) (D.begin s) ts e u → Comes c s (restart ∷ ts) e u
     restarts c s ts e u h k d = grind arith
-
-    pub stops : (c : W.Cursor) (s : D.S) → W.symbol c ≡ Stop → D.pulls s ≡ false → Comes c s (stop ∷ []) c (D.finish s)
-    stops c s h k = grind arith

@@ -1,12 +1,11 @@
 -- How many slots a cursor has left at the most: at least one, fewer after each, and no more at an opening than a string has letters.
 use Rattle.std.proofs.Common.{◌≡◌, ℕ, suc, ◌+◌, ◌-◌, ◌*◌, ◌<◌, ◌≤◌, Bool, false, Some, None, Option, arith}
 use Rattle.transfer.specs.Transfer.{TransferModel}
-use Rattle.transfer.specs.Leg.{BodyModel, LegModel, body_size}
+use Rattle.transfer.specs.Leg.{LegModel}
 use Rattle.master.specs.Cursor.{Play, at_end, at_restart, in_leg, CursorModel, leg_size, symbol_of, cursor_next, new_cursor}
 use Rattle.law.proofs.FarSide.{ends}
-use Rattle.law.specs.Legal.{IsLegalBody, IsLegal}
+use Rattle.law.specs.Legal.{IsLegal}
 use Rattle.law.specs.Limits.{bits_of_byte, letters_of_byte, most_letters}
-use Rattle.transfer.specs.Limits.{most_bytes}
 
 -- a repeated start, a leg and the stop
 abbrev pub slots_again : LegModel → ℕ
@@ -32,9 +31,6 @@ some_left c = play_some c.play
 
 pub fewer : (c : CursorModel) (heard : Bool) → ends (symbol_of c.play) ≡ false → slots_left (cursor_next c heard) < slots_left c
 fewer c heard h = grind arith
-
-small : (b : BodyModel) → IsLegalBody b → body_size b ≤ most_bytes
-small b h = grind arith
 
 pub at_most : (t : TransferModel) → IsLegal t → slots_left (new_cursor t) ≤ most_letters
 at_most t h = grind arith

@@ -12,7 +12,7 @@ use Rattle.law.specs.Bank.{Bank, bank_map}
 use Rattle.law.specs.TransferResult.{AddressedDevice, device_after_leg, leg_result, LegResult, result_after_leg, transfer_result}
 use Rattle.master.specs.Cursor.{at_end, cursor_at, new_cursor, outcome_of}
 use Rattle.master.specs.Script.{Script, transfers}
-use Rattle.law.specs.Letter.{Letter, stop, restart, one, rank, bit_letter, first_or_same}
+use Rattle.law.specs.Letter.{Letter, stop, restart, rank, bit_letter, first_or_same}
 use Rattle.law.proofs.FarSide.{Side, ends, heard, after, string}
 use Rattle.law.proofs.Alone.CursorsStayAlike.{open_alike}
 use Rattle.law.proofs.Alone.PlayedIsCarried.{opened_ports, carried_alone}
