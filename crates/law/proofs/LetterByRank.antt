@@ -17,7 +17,8 @@ same_of [] [] h = refl
 same_of [] (u ∷ us) h = cc
 same_of (t ∷ ts) [] h = cc
 same_of (t ∷ ts) (u ∷ us) h = go (same_letter t u) refl h (same_of ts us) where
-  go : (v : Bool) → same_letter t u ≡ v → (v && same_string ts us) ≡ true → (same_string ts us ≡ true → ts ≡ us) → t ∷ ts ≡ u ∷ us
+  go : (v : Bool) → same_letter t u ≡ v → (v && same_string ts us) ≡ true →
+      (same_string ts us ≡ true → ts ≡ us) → t ∷ ts ≡ u ∷ us
   go true e k rest = ap₂ ◌∷◌ (same_is t u e) (rest k)
   go false e k rest = cc
 

@@ -1,4 +1,4 @@
--- How many slots a cursor has left at the most: at least one, fewer after each, and no more at an opening than a string has letters.
+-- A cursor runs out of slots: it has one left or more, fewer after each, and at an opening no more than a string may have letters.
 use Rattle.std.proofs.Common.{◌≡◌, ℕ, suc, ◌+◌, ◌-◌, ◌*◌, ◌<◌, ◌≤◌, Bool, false, Some, None, Option, arith}
 use Rattle.transfer.specs.Transfer.{TransferModel}
 use Rattle.transfer.specs.Leg.{LegModel}
@@ -11,10 +11,12 @@ use Rattle.law.specs.Limits.{bits_of_byte, letters_of_byte, most_letters}
 abbrev pub slots_again : LegModel → ℕ
 slots_again g = 1 + letters_of_byte * suc (leg_size g) + 1
 
+-- after a leg: what is to come, or the stop
 abbrev pub slots_after : Option LegModel → ℕ
 slots_after None = 1
 slots_after (Some g) = slots_again g
 
+-- at the most
 abbrev pub play_slots : Play → ℕ
 play_slots at_end = 1
 play_slots (at_restart g) = slots_again g
