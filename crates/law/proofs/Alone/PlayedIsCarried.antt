@@ -1,5 +1,5 @@
 -- A transfer played bit by bit is the transfer carried byte by byte.
-use Rattle.std.proofs.Common.{◌≡◌, ℕ, ◌≤◌, List, [], ◌∷◌, ◌++◌, map, Some, None, Option, sym, refl, ap, ◌∙◌, subst, arith}
+use Rattle.std.proofs.Common.{◌≡◌, ℕ, ◌≤◌, List, [], ◌∷◌, ◌++◌, map, Some, None, Option, sym, refl, ap, ◌∙◌, subst, le_refl, arith}
 use Rattle.transfer.specs.declared.outcome.OutcomeKind.{OutcomeKind}
 use Rattle.transfer.specs.declared.outcome.OutcomeKind.TheVariants.{Done, NoAnswer, Refused}
 use Rattle.transfer.specs.Transfer.{TransferModel}
@@ -142,3 +142,7 @@ module _ (ds : List Behaviour) where
         same_devices = rw (opened_is ds d) (p.comes.last_is n b);
         quiet = λ m. rw (opened_is ds d) (p.comes.quiet m);
       }
+
+  -- within as many slots as it may take
+  pub agrees : (t : TransferModel) (d : Bank AddressedDevice ds) → IsLegal t → Agrees t d (slots_left (new_cursor t))
+  agrees t d h = carried_alone t d (slots_left (new_cursor t)) h (le_refl (slots_left (new_cursor t)))
