@@ -17,6 +17,7 @@ use Rattle.law.proofs.Alone.StepsOfBanks.{any}
 abbrev pub unheld : (b : Behaviour) → PortModel b → PortModel b
 unheld b p = record { address = p.address; meaning = p.meaning; owed = p.owed; mode = p.mode; hold = 0 }
 
+-- what a bit, a start and a stop make of a port
 abbrev pub counting : Bool → (b : Behaviour) → PortModel b → PortModel b
 counting x b p = port_after_bit b p p.mode x 0
 
@@ -45,10 +46,10 @@ idle_port b d = new_port b d.address d.meaning
 abbrev pub idle_ports : (ds : List Behaviour) → Bank AddressedDevice ds → Bank PortModel ds
 idle_ports ds d = bank_map idle_port ds d
 
-module _ (b : Behaviour) where
-  -- a bit counts alike whatever a port holds, and whatever hold answers
-  pub unheld_counts : (p : PortModel b) (m : Mode) (x : Bool) (h : ℕ) → unheld b (port_after_bit b p m x h) ≡ port_after_bit b (unheld b p) m x 0
-  unheld_counts p m x h = grind arith
+-- a bit counts alike whatever a port holds, and whatever hold answers
+unheld_counts : (b : Behaviour) (p : PortModel b) (m : Mode) (x : Bool) (h : ℕ) →
+    unheld b (port_after_bit b p m x h) ≡ port_after_bit b (unheld b p) m x 0
+unheld_counts b p m x h = grind arith
 
 follows : (ds : List Behaviour) (s : Bank PortModel ds) (e : Event) (o : Option Bool) (i : Bool) (a : HoldAnswers ds) →
     bank_map unheld ds (ports_step ds s (record { event = e; bit = o; free_and_high = i }) a) ≡
@@ -62,7 +63,8 @@ pub side_follows : (ds : List Behaviour) (s : Bank PortModel ds) (v : Signal) (a
 side_follows ds s v a = follows ds s v.event v.bit v.free_and_high a
 
 -- the ports pull SDA exactly if the side does
-pub side_pulls : (ds : List Behaviour) (s : Bank PortModel ds) → (all_pulls (bank_list port_pulls ds s)).sda ≡ (ports_side ds).pulls (bank_map unheld ds s)
+pub side_pulls : (ds : List Behaviour) (s : Bank PortModel ds) →
+    (all_pulls (bank_list port_pulls ds s)).sda ≡ (ports_side ds).pulls (bank_map unheld ds s)
 side_pulls [] s = refl
 side_pulls (b ∷ ds) s = grind (arith, side_pulls ds)
 
