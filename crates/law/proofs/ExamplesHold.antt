@@ -11,12 +11,15 @@ use Rattle.master.specs.declared.arming.Arming.TheVariants.{Unarmed, Armed}
 use Rattle.law.specs.Bank.{Bank}
 use Rattle.law.specs.Book.{Entry, least_result, outcomes_of_turn, devices_after, entries_after_turn}
 use Rattle.law.specs.TransferResult.{AddressedDevice, TransferResult, transfer_result}
-use Rattle.law.specs.WorkedExamples.{RefusedExamples, StringExamples, TurnExamples, Exhibits, WorkedExamples, two_hosts, open_book, EndOfTurn, Wins, device_at_50, write_of, read_of, write_then_read_of, done_with, registers_at, busy_registers, stored_at_3}
+use Rattle.law.specs.WorkedExamples.{RefusedExamples, StringExamples, TurnExamples, Exhibits, WorkedExamples}
+use Rattle.law.specs.WorkedExamples.{two_hosts, open_book, EndOfTurn, Wins, device_at_50, write_of, read_of}
+use Rattle.law.specs.WorkedExamples.{write_then_read_of, done_with, registers_at, busy_registers, stored_at_3}
 
 module _ (b : Behaviour) (m : b.Meaning) where
   -- both carried alone, who is told what, and the device after it
   abbrev contest : TransferModel → TransferModel → List (Option (TransferResult (b ∷ [])))
-  contest a c = Some (transfer_result (b ∷ []) a (device_at_50 b m)) ∷ Some (transfer_result (b ∷ []) c (device_at_50 b m)) ∷ []
+  contest a c = Some (transfer_result (b ∷ []) a (device_at_50 b m)) ∷
+      Some (transfer_result (b ∷ []) c (device_at_50 b m)) ∷ []
 
   abbrev tells : TransferModel → TransferModel → List (Option OutcomeModel)
   tells a c = outcomes_of_turn (b ∷ []) (least_result (b ∷ []) (contest a c)) (contest a c)
@@ -85,7 +88,8 @@ turns =
       restart_over_one = wins write_3_then_read write_3_80 (0 ∷ []) (registers_at 4) refl refl refl refl;
       more_over_fewer = wins (read_of 3) (read_of 2) (0 ∷ 0 ∷ 0 ∷ []) (registers_at 3) refl refl refl refl;
       equal_writes = λ f g e h.
-          turn (busy_over register_file) (busy_registers 0 new_registers) f g write_3_12 write_3_12 (done_with []) (done_with [])
+          turn (busy_over register_file) (busy_registers 0 new_registers) f g write_3_12 write_3_12
+              (done_with []) (done_with [])
               (busy_registers 1 (stored_at_3 4)) Unarmed Unarmed e h refl refl refl refl;
     }
 

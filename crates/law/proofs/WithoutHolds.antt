@@ -1,15 +1,19 @@
 -- Where no device may hold, a tick and a run do not depend on the answers to hold.
-use Rattle.std.proofs.Common.{◌≡◌, ℕ, zero, suc, ◌+◌, Bool, true, false, cond, List, [], ◌∷◌, Option, Ok, Err, nat_lt, refl, ap, ap₂, ◌∙◌, arith}
+use Rattle.std.proofs.Common.{◌≡◌, ℕ, zero, suc, ◌+◌, Bool, true, false, cond, List, []}
+use Rattle.std.proofs.Common.{◌∷◌, Option, Ok, Err, nat_lt, refl, ap, ap₂, ◌∙◌, arith}
 use Rattle.device.specs.Device.{Behaviour}
 use Rattle.host.specs.Host.{HostBehaviour}
 use Rattle.port.specs.declared.port.Mode.{Mode}
-use Rattle.port.specs.Port.{asks_hold, asks_hold_at_event, asks_hold_at_bit, MayAnswer, PortModel, port_step, port_after_event, port_after_bit}
+use Rattle.port.specs.Port.{asks_hold, asks_hold_at_event, asks_hold_at_bit, MayAnswer}
+use Rattle.port.specs.Port.{PortModel, port_step, port_after_event, port_after_bit}
 use Rattle.wire.specs.declared.event.Event.{Event}
 use Rattle.wire.specs.declared.wire.Signal.{Signal}
 use Rattle.wire.specs.Wire.{signal}
 use Rattle.law.specs.Bank.{Bank}
-use Rattle.law.specs.Bus.{BusModel, HoldAnswers, AllMayAnswer, NeverHold, no_holds, Answered, ports_step, tick_at, told_at, levels_at, is_at_rest}
-use Rattle.law.specs.Run.{some_count, Running, run_after_tick, run_after_ticks, RunTicksAnswered, run_start, run_report, RunAnswered, run_at}
+use Rattle.law.specs.Bus.{BusModel, HoldAnswers, AllMayAnswer, NeverHold, no_holds}
+use Rattle.law.specs.Bus.{Answered, ports_step, tick_at, told_at, levels_at, is_at_rest}
+use Rattle.law.specs.Run.{some_count, Running, run_after_tick, run_after_ticks}
+use Rattle.law.specs.Run.{RunTicksAnswered, run_start, run_report, RunAnswered, run_at}
 use Rattle.law.specs.Limits.{most_ticks}
 
 module _ (b : Behaviour) where

@@ -1,5 +1,6 @@
--- The laws of bytes: who took an acknowledged byte, and who gave a byte that was read.
-use Rattle.std.proofs.Common.{◌≡◌, ℕ, zero, suc, ◌+◌, ◌-◌, ◌*◌, ◌<◌, Bool, true, false, cond, ◌&&◌, ◌↔◌, List, [], ◌∷◌, length, take, sym, refl, ◌∙◌, inl, inr, mod-eq_of_lt, arith}
+-- The laws of bytes hold: who took an acknowledged byte, and who gave a byte that was read.
+use Rattle.std.proofs.Common.{◌≡◌, ℕ, zero, suc, ◌+◌, ◌-◌, ◌*◌, ◌<◌, Bool, true, false, cond, ◌&&◌, ◌↔◌}
+use Rattle.std.proofs.Common.{List, [], ◌∷◌, length, take, sym, refl, ◌∙◌, inl, inr, mod-eq_of_lt, arith}
 use Rattle.std.specs.Prelude.{slice_index_or}
 use lib.Bits.{bit_and, and_mask, and_comm}
 use Rattle.std.proofs.lemmas.Bool.{lt-ltb, or_cases, or_parts}
@@ -8,10 +9,13 @@ use Rattle.transfer.specs.declared.leg.Direction.TheVariants.{Write, Read}
 use Rattle.transfer.specs.declared.outcome.OutcomeKind.TheVariants.{Done, NoAnswer, Refused}
 use Rattle.device.specs.Device.{Behaviour}
 use Rattle.law.specs.Bank.{Bank, bank_map, BankAll}
-use Rattle.law.specs.TransferResult.{AddressedDevice, DeviceInLeg, device_after_call, device_put, device_after_take, byte_given_by, byte_levels, LegResult, leg_end, with_byte, any_in, write_result, read_result, leg_result}
+use Rattle.law.specs.TransferResult.{AddressedDevice, DeviceInLeg, device_after_call, device_put}
+use Rattle.law.specs.TransferResult.{device_after_take, byte_given_by, byte_levels, LegResult, leg_end}
+use Rattle.law.specs.TransferResult.{with_byte, any_in, write_result, read_result, leg_result}
 use Rattle.wire.specs.ByteProgress.{bit_at}
 use Rattle.transfer.specs.Address.{answers_to}
-use Rattle.law.specs.Facts.{Exists, devices_after_puts, devices_after_takes, byte_of_devices, write_leg, read_leg, Accepts, Only, ByteLaws}
+use Rattle.law.specs.Facts.{Exists, devices_after_puts, devices_after_takes}
+use Rattle.law.specs.Facts.{byte_of_devices, write_leg, read_leg, Accepts, Only, ByteLaws}
 use Rattle.law.proofs.Alone.StepsOfBanks.{any}
 use Rattle.law.proofs.Alone.BitsOfByte.{ones, digit_and}
 use Rattle.law.proofs.Alone.PortsWithinByte.{called_for, put_to_all}
@@ -41,14 +45,15 @@ every_each g A R f (b ∷ ds) d h = (f b d.0 h.0, every_each g A R f ds d.1 h.1)
 abbrev Called : ℕ → (b : Behaviour) → DeviceInLeg b → Type 0
 Called a b p = p.inside ≡ true → (answers_to p.address a ≡ true) × (p.yes ≡ true)
 
-called_select : (a : ℕ) (r : Direction) (b : Behaviour) (d : AddressedDevice b) (t : Bool) → answers_to d.address a ≡ t →
-    Called a b (device_after_call b a r d)
+called_select : (a : ℕ) (r : Direction) (b : Behaviour) (d : AddressedDevice b) (t : Bool) →
+    answers_to d.address a ≡ t → Called a b (device_after_call b a r d)
 called_select a r b d t h = grind arith
 
 called_put : (a x : ℕ) (b : Behaviour) (p : DeviceInLeg b) → Called a b p → Called a b (device_put b x p)
 called_put a x b p h = grind arith
 
-all_called : (a : ℕ) (r : Direction) (ds : List Behaviour) (d : Bank AddressedDevice ds) → BankAll (Called a) ds (called_for ds a r d)
+all_called : (a : ℕ) (r : Direction) (ds : List Behaviour) (d : Bank AddressedDevice ds) →
+    BankAll (Called a) ds (called_for ds a r d)
 all_called a r [] d = tt
 all_called a r (b ∷ ds) d = (called_select a r b d.0 (answers_to d.0.address a) refl, all_called a r ds d.1)
 
@@ -59,7 +64,8 @@ having_called a ds (x ∷ xs) e h = having_called a ds xs (put_to_all ds x e)
     (every_each (λ b. device_put b x) (Called a) (Called a) (λ b p. called_put a x b p) ds e h)
 
 -- a device that is in after it was given a byte accepted it
-accepts : (a x : ℕ) (b : Behaviour) (p : DeviceInLeg b) → Called a b p → (device_put b x p).inside ≡ true → Accepts a x b p
+accepts : (a x : ℕ) (b : Behaviour) (p : DeviceInLeg b) → Called a b p →
+    (device_put b x p).inside ≡ true → Accepts a x b p
 accepts a x b p h k = grind arith
 
 -- nine levels on
@@ -103,7 +109,8 @@ module _ (ds : List Behaviour) where
       let x = slice_index_or xs y 0 in
       let e = called_for ds a Write d in
       let unanswered = leg_end ds (NoAnswer (record { leg = l })) e in
-      let rest = later (a * 2) (write_result ds l xs 0 e) unanswered (any_in ds e) (9 * y + 8) refl (rw (nine y) at q) in
+      let rest =
+          later (a * 2) (write_result ds l xs 0 e) unanswered (any_in ds e) (9 * y + 8) refl (rw (nine y) at q) in
       some_each (λ b. device_put b x) (λ b p. p.inside) (Called a) (Accepts a x) (accepts a x)
           ds (devices_after_puts ds (take y xs) e)
           (having_called a ds (take y xs) e (all_called a Write ds d))
@@ -128,7 +135,8 @@ module _ (ds : List Behaviour) where
       r : Bool → LegResult ds
       r t = took (a * 2 + 1) (read_result ds n e) (leg_end ds (NoAnswer (record { leg = l })) e) t
 
-      go : (t : Bool) → (r t).kind ≡ Done → slice_index_or (r t).bytes y 0 ≡ byte_of_devices ds (devices_after_takes ds y e)
+      go : (t : Bool) → (r t).kind ≡ Done →
+          slice_index_or (r t).bytes y 0 ≡ byte_of_devices ds (devices_after_takes ds y e)
       go true k = reads_so n e y h
       go false k = cc
 
@@ -136,7 +144,8 @@ module _ (ds : List Behaviour) where
 abbrev Gives : ℕ → (b : Behaviour) → DeviceInLeg b → Type 0
 Gives k b p = p.inside ≡ true → bit_at (b.take p.meaning).0 k ≡ true
 
-gave_one : (b : Behaviour) (p : DeviceInLeg b) (k : ℕ) → bit_at 255 k ≡ true → (bit_at (byte_given_by b p) k ≡ true) ↔ Gives k b p
+gave_one : (b : Behaviour) (p : DeviceInLeg b) (k : ℕ) → bit_at 255 k ≡ true →
+    (bit_at (byte_given_by b p) k ≡ true) ↔ Gives k b p
 gave_one b p k h = grind arith
 
 -- the joint byte has 1 at bit k exactly if all give it

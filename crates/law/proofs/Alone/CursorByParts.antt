@@ -1,7 +1,9 @@
 -- Where a cursor goes and what it notes, each by itself.
-use Rattle.std.proofs.Common.{◌≡◌, ℕ, suc, Bool, true, false, cond, ◌&&◌, ltb, [], ◌∷◌, ◌++◌, Some, None, Option, arith}
+use Rattle.std.proofs.Common.{◌≡◌, ℕ, suc, Bool, true, false, cond, ◌&&◌, ltb}
+use Rattle.std.proofs.Common.{[], ◌∷◌, ◌++◌, Some, None, Option, arith}
 use Rattle.transfer.specs.Leg.{LegModel}
-use Rattle.master.specs.Cursor.{Play, at_end, at_restart, in_leg, Notes, cursor_at, master_sends, leg_size, notes_with, notes_after_bit, failure_kind, play_next}
+use Rattle.master.specs.Cursor.{Play, at_end, at_restart, in_leg, Notes, cursor_at, master_sends}
+use Rattle.master.specs.Cursor.{leg_size, notes_with, notes_after_bit, failure_kind, play_next}
 
 -- after the last byte of a leg
 abbrev pub leaves : Option LegModel → Play
@@ -35,5 +37,6 @@ notes_on (in_leg g o y b) n heard = cond (ltb b 8)
         (kept (master_sends g y) n))
 
 -- a cursor goes by both
-pub next_is : (p : Play) (n : Notes) (heard : Bool) → play_next p n heard ≡ cursor_at (moves p heard) (notes_on p n heard)
+pub next_is : (p : Play) (n : Notes) (heard : Bool) →
+    play_next p n heard ≡ cursor_at (moves p heard) (notes_on p n heard)
 next_is p n heard = grind arith

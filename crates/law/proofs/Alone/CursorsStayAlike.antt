@@ -1,11 +1,13 @@
 -- Cursors that carried the same letters listen at the same slots, and stay alike until they show different symbols.
-use Rattle.std.proofs.Common.{◌≡◌, ℕ, suc, ◌<◌, ◌≤◌, Bool, true, false, cond, ◌&&◌, ltb, ◌⊎◌, Option, sym, refl, ◌∙◌, inl, inr, arith}
+use Rattle.std.proofs.Common.{◌≡◌, ℕ, suc, ◌<◌, ◌≤◌, Bool, true, false, cond, ◌&&◌}
+use Rattle.std.proofs.Common.{ltb, ◌⊎◌, Option, sym, refl, ◌∙◌, inl, inr, arith}
 use Rattle.std.proofs.lemmas.Bool.{cases_lt, lt-ltb, le-ltb}
 use Rattle.transfer.specs.Transfer.{TransferModel}
 use Rattle.transfer.specs.Leg.{LegModel}
 use Rattle.master.specs.declared.symbol.Symbol.{Symbol}
 use Rattle.master.specs.declared.symbol.Symbol.TheVariants.{Listen, Stop}
-use Rattle.master.specs.Cursor.{Play, at_end, at_restart, in_leg, CursorModel, new_cursor, is_write, master_sends, leg_size, symbol_in_leg, symbol_of}
+use Rattle.master.specs.Cursor.{Play, at_end, at_restart, in_leg, CursorModel, new_cursor}
+use Rattle.master.specs.Cursor.{is_write, master_sends, leg_size, symbol_in_leg, symbol_of}
 use Rattle.master.specs.Script.{transfers}
 use Rattle.law.proofs.Machine.Arbitration.{Laws}
 use Rattle.law.proofs.FarSide.{ends}
@@ -57,11 +59,13 @@ both_listen : (p q : Play) → AlikePlay p q → symbol_of p ≡ Listen → symb
 both_listen p q h k = grind arith
 
 -- readers that show the same acknowledge both go on or both leave
-read_on : (f g : LegModel) (y b : ℕ) → IsLegalLeg f → IsLegalLeg g → 8 ≤ b → is_write f.body ≡ false → is_write g.body ≡ false →
+read_on : (f g : LegModel) (y b : ℕ) → IsLegalLeg f → IsLegalLeg g → 8 ≤ b →
+    is_write f.body ≡ false → is_write g.body ≡ false →
     symbol_in_leg f y b ≡ symbol_in_leg g y b → ltb y (leg_size f) ≡ ltb y (leg_size g)
 read_on f g y b h k e d q r = grind arith
 
-still_one_way : (f g : LegModel) (y b : ℕ) → b < 8 → OneWay f g y b → symbol_in_leg f y b ≡ symbol_in_leg g y b → OneWay f g y (suc b)
+still_one_way : (f g : LegModel) (y b : ℕ) → b < 8 → OneWay f g y b →
+    symbol_in_leg f y b ≡ symbol_in_leg g y b → OneWay f g y (suc b)
 still_one_way f g y b h k e = grind arith
 
 -- at the ninth bit the direction bit is past
@@ -104,11 +108,13 @@ module _ (f g : LegModel) (m o : Option LegModel)
       }))
     | inr d ↦
         let goes = goes_alike y b d (is_write g.body) (late_one_way f g y b d c) refl e in
-        rw (le-ltb b 8 d, same_own f g y b c) (ended_alike (master_sends g y && heard) (goes_on f m y) (goes_on g o y) goes)
+        rw (le-ltb b 8 d, same_own f g y b c)
+            (ended_alike (master_sends g y && heard) (goes_on f m y) (goes_on g o y) goes)
   ]
 
 -- alike that show the same and hear the same stay alike
-still_alike : (p q : Play) (heard : Bool) → AlikePlay p q → symbol_of p ≡ symbol_of q → AlikePlay (moves p heard) (moves q heard)
+still_alike : (p q : Play) (heard : Bool) → AlikePlay p q → symbol_of p ≡ symbol_of q →
+    AlikePlay (moves p heard) (moves q heard)
 still_alike p q t (inr a) e = absurd (a.differ e)
 still_alike at_end at_end t (inl h) e = inl tt
 still_alike at_end (at_restart g) t (inl h) e = elim h [ ]

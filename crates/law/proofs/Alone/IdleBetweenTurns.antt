@@ -1,5 +1,5 @@
 -- The ports between turns: they pull nothing, and a transfer alone finds them so and leaves them so.
-use Rattle.std.proofs.Common.{◌≡◌, ℕ, ◌≤◌, false, List, sym, refl, ap, ◌∙◌, subst, le_refl}
+use Rattle.std.proofs.Common.{◌≡◌, ℕ, ◌≤◌, false, List, sym, refl, ap, ◌∙◌, subst}
 use Rattle.transfer.specs.Transfer.{TransferModel}
 use Rattle.device.specs.Device.{Behaviour}
 use Rattle.law.specs.Bank.{Bank}
@@ -31,7 +31,8 @@ module _ (ds : List Behaviour) where
           ((agrees ds t h.devices k).quiet m)
 
   -- and leaves such ports
-  pub idle_at_last : (t : TransferModel) (s : Bank PortModel ds) (n : ℕ) → IsLegal t → slots_left (new_cursor t) ≤ n → Idle s →
+  pub idle_at_last : (t : TransferModel) (s : Bank PortModel ds) (n : ℕ) → IsLegal t →
+      slots_left (new_cursor t) ≤ n → Idle s →
       Idle (last transfers (ports_side ds) n (new_cursor t) ((ports_side ds).begin s))
   idle_at_last t s n k b h = record {
     devices = (transfer_result ds t h.devices).devices;

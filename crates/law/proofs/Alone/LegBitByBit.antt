@@ -1,5 +1,7 @@
 -- A leg played bit by bit is the leg carried byte by byte.
-use Rattle.std.proofs.Common.{◌≡◌, ℕ, zero, suc, ◌+◌, ◌-◌, ◌*◌, ◌/◌, ◌%◌, ◌<◌, ◌≤◌, Bool, true, false, cond, not, eqb, ltb, List, [], ◌∷◌, ◌++◌, length, drop, Option, sym, refl, ap, ◌∙◌, subst, inl, inr, append_assoc, append-nil, arith}
+use Rattle.std.proofs.Common.{◌≡◌, ℕ, zero, suc, ◌+◌, ◌-◌, ◌*◌, ◌/◌, ◌%◌, ◌<◌, ◌≤◌, Bool, true, false}
+use Rattle.std.proofs.Common.{cond, not, eqb, ltb, List, [], ◌∷◌, ◌++◌, length, drop, Option, sym}
+use Rattle.std.proofs.Common.{refl, ap, ◌∙◌, subst, inl, inr, append_assoc, append-nil, arith}
 use Rattle.std.specs.Prelude.{slice_index_or}
 use lib.Dec.{eqb-suc-zero}
 use Rattle.std.proofs.lemmas.Bool.{lt-ltb, le-ltb}
@@ -13,15 +15,22 @@ use Rattle.transfer.specs.Octets.{IsOctets}
 use Rattle.device.specs.Device.{Behaviour}
 use Rattle.master.specs.declared.symbol.Symbol.TheVariants.{Listen}
 use Rattle.law.specs.Bank.{Bank, bank_map, bank_list}
-use Rattle.law.specs.TransferResult.{AddressedDevice, DeviceInLeg, device_after_take, byte_given_by, joint_byte, call_byte, byte_levels, LegResult, leg_end, with_byte, any_in, write_result, read_result, body_result, leg_result}
-use Rattle.master.specs.Cursor.{in_leg, at_end, Notes, CursorModel, cursor_at, byte_of_leg, master_sends, symbol_in_leg, failure_kind, after_leg, after_byte, cursor_next}
+use Rattle.law.specs.TransferResult.{AddressedDevice, DeviceInLeg, device_after_take, byte_given_by}
+use Rattle.law.specs.TransferResult.{joint_byte, call_byte, byte_levels, LegResult, leg_end, with_byte}
+use Rattle.law.specs.TransferResult.{any_in, write_result, read_result, body_result, leg_result}
+use Rattle.master.specs.Cursor.{in_leg, at_end, Notes, CursorModel, cursor_at, byte_of_leg, master_sends}
+use Rattle.master.specs.Cursor.{symbol_in_leg, failure_kind, after_leg, after_byte, cursor_next}
 use Rattle.wire.specs.ByteProgress.{bit_at, shift_in}
 use Rattle.port.specs.Port.{PortModel}
 use Rattle.master.specs.Script.{transfers}
 use Rattle.master.specs.Symbol.{bit_symbol}
 use Rattle.law.specs.Facts.{write_leg, read_leg}
 use Rattle.law.specs.Legal.{IsLegalBody, IsLegalLeg}
-use Rattle.law.proofs.Alone.PortsWithinByte.{addressing_at, writing_at, acknowledging_at, reading_at, out_at, joined_byte, reading_pulls, called_for, put_to_all, address_more, address_full, write_more, write_full, read_more, write_on, read_none, ready, gets_ready, one_more, no_more, address_quiet, write_quiet, acknowledge_pulls, eighth_quiet, Rests, rests_writing, rests_out}
+use Rattle.law.proofs.Alone.PortsWithinByte.{addressing_at, writing_at, acknowledging_at, reading_at, out_at}
+use Rattle.law.proofs.Alone.PortsWithinByte.{joined_byte, reading_pulls, called_for, put_to_all, address_more}
+use Rattle.law.proofs.Alone.PortsWithinByte.{address_full, write_more, write_full, read_more, write_on, read_none}
+use Rattle.law.proofs.Alone.PortsWithinByte.{ready, gets_ready, one_more, no_more, address_quiet, write_quiet}
+use Rattle.law.proofs.Alone.PortsWithinByte.{acknowledge_pulls, eighth_quiet, Rests, rests_writing, rests_out}
 use Rattle.law.proofs.Alone.PortsAsSide.{ports_side}
 use Rattle.law.proofs.Alone.SlotsOfLevels.{Carries, low_bits, byte}
 
@@ -115,8 +124,10 @@ module _ (ds : List Behaviour) (o : Option LegModel) (K : CursorModel → Bank P
       Goes (at_bit g 0 0 m) (bank_map (addressing_at 0 0) ds d) (low_bits 8 x bs)
   address_plays g x m d bs h r =
       byte transfers (ports_side ds) K x (λ k v. at_bit g 0 k m) (λ k v. bank_map (addressing_at k v) ds d)
-          (λ v. bank_map (acknowledging_at (direction_of (eqb (v % 2) 1))) ds (called_for ds (v / 2) (direction_of (eqb (v % 2) 1)) d))
-          (λ k v e. inl (own_shown g 0 k refl e ∙ ap (λ z. bit_symbol (bit_at z (7 - k))) h.sent_is, address_quiet ds d k v))
+          (λ v. bank_map (acknowledging_at (direction_of (eqb (v % 2) 1))) ds
+              (called_for ds (v / 2) (direction_of (eqb (v % 2) 1)) d))
+          (λ k v e. inl (own_shown g 0 k refl e ∙ ap (λ z. bit_symbol (bit_at z (7 - k))) h.sent_is,
+              address_quiet ds d k v))
           (λ k v b e. own_next g 0 k m b refl e)
           (λ k v b e. address_more ds d k v b e)
           (λ v b. address_full ds d v b)
@@ -131,7 +142,8 @@ module _ (ds : List Behaviour) (o : Option LegModel) (K : CursorModel → Bank P
       let g = write_leg a xs in
       byte transfers (ports_side ds) K x (λ k v. at_bit g (suc y) k m) (λ k v. bank_map (writing_at k v) ds d)
           (λ v. bank_map (acknowledging_at Write) ds (put_to_all ds v d))
-          (λ k v e. inl (own_shown g (suc y) k refl e ∙ ap (λ z. bit_symbol (bit_at z (7 - k))) f, write_quiet ds d k v))
+          (λ k v e. inl (own_shown g (suc y) k refl e ∙ ap (λ z. bit_symbol (bit_at z (7 - k))) f,
+              write_quiet ds d k v))
           (λ k v b e. own_next g (suc y) k m b refl e)
           (λ k v b e. write_more ds d k v b e)
           (λ v b. write_full ds d v b)
@@ -164,29 +176,36 @@ module _ (ds : List Behaviour) (o : Option LegModel) (K : CursorModel → Bank P
       gathers k v b e = rw e
 
   -- the acknowledge that the master listens for: A
-  heard_yes : (g : LegModel) (y : ℕ) (m : Notes) (r : Direction) (e : Bank DeviceInLeg ds) (u : Bank PortModel ds) (bs : List Bool) →
-      master_sends g y ≡ true → any_in ds e ≡ true → (ports_side ds).bit (bank_map (acknowledging_at r) ds e) false ≡ u →
+  heard_yes : (g : LegModel) (y : ℕ) (m : Notes) (r : Direction) (e : Bank DeviceInLeg ds)
+      (u : Bank PortModel ds) (bs : List Bool) →
+      master_sends g y ≡ true → any_in ds e ≡ true →
+      (ports_side ds).bit (bank_map (acknowledging_at r) ds e) false ≡ u →
       Goes (after_byte g o y m) u bs → Goes (at_bit g y 8 m) (bank_map (acknowledging_at r) ds e) (false ∷ bs)
   heard_yes g y m r e u bs a i q k = (inr (rw a, rw (acknowledge_pulls ds e r, i)), rw (a, q) k)
 
   -- N
   heard_no : (g : LegModel) (y l : ℕ) (xs : List ℕ) (r : Direction) (e : Bank DeviceInLeg ds) (u : Bank PortModel ds) →
-      master_sends g y ≡ true → any_in ds e ≡ false → (ports_side ds).bit (bank_map (acknowledging_at r) ds e) true ≡ u →
+      master_sends g y ≡ true → any_in ds e ≡ false →
+      (ports_side ds).bit (bank_map (acknowledging_at r) ds e) true ≡ u →
       K (cursor_at at_end (notes l xs 0 (failure_kind l y))) u →
       Goes (at_bit g y 8 (notes l xs 0 Done)) (bank_map (acknowledging_at r) ds e) (true ∷ [])
   heard_no g y l xs r e u a i q k = (inr (rw a, rw (acknowledge_pulls ds e r, i)), rw (a, q) k)
 
   -- what is to be shown at a leg's end
   abbrev Ends : ℕ → List ℕ → LegResult ds → Type 0
-  Ends l xs r = (u : Bank PortModel ds) → Rests ds u r.devices → K (closing r.kind o (notes l (xs ++ r.bytes) 0 r.kind)) u
+  Ends l xs r = (u : Bank PortModel ds) → Rests ds u r.devices →
+      K (closing r.kind o (notes l (xs ++ r.bytes) 0 r.kind)) u
 
   -- leg l writes xs; ys were read before it
   module _ (a l : ℕ) (xs ys : List ℕ) where
     -- the bytes zs of it, from byte y on
-    write_bytes : (zs : List ℕ) (y : ℕ) (d : Bank DeviceInLeg ds) → drop y xs ≡ zs → IsOctets zs → Ends l ys (write_result ds l zs y d) →
-        Goes (after_byte (write_leg a xs) o y (notes l ys 0 Done)) (bank_map (writing_at 0 0) ds d) (write_result ds l zs y d).levels
+    write_bytes : (zs : List ℕ) (y : ℕ) (d : Bank DeviceInLeg ds) →
+        drop y xs ≡ zs → IsOctets zs → Ends l ys (write_result ds l zs y d) →
+        Goes (after_byte (write_leg a xs) o y (notes l ys 0 Done)) (bank_map (writing_at 0 0) ds d)
+            (write_result ds l zs y d).levels
     write_bytes [] y d e f k =
-        rw (le-ltb y (length xs) (over xs y e)) (rw append-nil at (k (bank_map (writing_at 0 0) ds d) (rests_writing ds d)))
+        rw (le-ltb y (length xs) (over xs y e))
+            (rw append-nil at (k (bank_map (writing_at 0 0) ds d) (rests_writing ds d)))
     write_bytes (x ∷ zs) y d e f k =
         let r = here xs y x zs e in
         rw (lt-ltb y (length xs) r.inside) (go (any_in ds w) refl k (write_bytes zs (suc y) w r.rest (λ j. f (suc j))))
@@ -218,11 +237,14 @@ module _ (ds : List Behaviour) (o : Option LegModel) (K : CursorModel → Bank P
         go true i k ih = written_plays a xs y x m d (false ∷ rest.levels) (here xs y x zs e).found (f 0)
             (heard_yes g (suc y) m Write w u rest.levels refl i (write_on ds w false) (ih k))
         go false i k ih = written_plays a xs y x m d (true ∷ []) (here xs y x zs e).found (f 0)
-            (heard_no g (suc y) l ys Write w u refl i (write_on ds w true) (rw append-nil at (k u (rests_writing ds w))))
+            (heard_no g (suc y) l ys Write w u refl i (write_on ds w true)
+                (rw append-nil at (k u (rests_writing ds w))))
 
   -- byte y of a read of c, with n to come after it
-  read_bytes : (a c l : ℕ) (ys : List ℕ) (n y : ℕ) (d : Bank DeviceInLeg ds) → y + suc n ≡ c → Ends l ys (read_result ds (suc n) d) →
-      Goes (at_bit (read_leg a c) (suc y) 0 (notes l ys 0 Done)) (bank_map (reading_at 0) ds d) (read_result ds (suc n) d).levels
+  read_bytes : (a c l : ℕ) (ys : List ℕ) (n y : ℕ) (d : Bank DeviceInLeg ds) → y + suc n ≡ c →
+      Ends l ys (read_result ds (suc n) d) →
+      Goes (at_bit (read_leg a c) (suc y) 0 (notes l ys 0 Done)) (bank_map (reading_at 0) ds d)
+          (read_result ds (suc n) d).levels
   read_bytes a c l ys zero y d e k =
       let h : ltb (suc y) c ≡ false = le-ltb (suc y) c (omega arith) in
       let w = bank_map device_after_take ds d in
@@ -239,7 +261,8 @@ module _ (ds : List Behaviour) (o : Option LegModel) (K : CursorModel → Bank P
       subst (λ t. Goes at_start (bank_map (reading_at 0) ds d) (low_bits 8 x (t ∷ rest))) (sym (eqb-suc-zero n))
           (read_plays a c y l ys d (false ∷ rest) (
             inl (rw h, eighth_quiet ds d),
-            rw (h, one_more ds d) (read_bytes a c l (ys ++ (x ∷ [])) n (suc y) w (omega arith) (λ u q. rw append_assoc (k u q))),
+            rw (h, one_more ds d)
+                (read_bytes a c l (ys ++ (x ∷ [])) n (suc y) w (omega arith) (λ u q. rw append_assoc (k u q))),
           ))
 
   -- after N nobody is in
@@ -256,7 +279,8 @@ module _ (ds : List Behaviour) (o : Option LegModel) (K : CursorModel → Bank P
   body_plays a (reads (suc n)) l ys e f k =
       rw (lt-ltb 0 (suc n) (omega arith)) (read_bytes a (suc n) l ys n 0 e (omega arith) k)
 
-  pub leg_plays : (g : LegModel) (l : ℕ) (ys : List ℕ) (d : Bank AddressedDevice ds) → IsLegalLeg g → Ends l ys (leg_result ds l g d) →
+  pub leg_plays : (g : LegModel) (l : ℕ) (ys : List ℕ) (d : Bank AddressedDevice ds) → IsLegalLeg g →
+      Ends l ys (leg_result ds l g d) →
       Goes (at_bit g 0 0 (notes l ys 0 Done)) (bank_map (addressing_at 0 0) ds d) (leg_result ds l g d).levels
   leg_plays g l ys d f k = go (any_in ds e) refl k
     where

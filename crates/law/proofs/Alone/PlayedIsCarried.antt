@@ -1,13 +1,16 @@
 -- A transfer played bit by bit is the transfer carried byte by byte.
-use Rattle.std.proofs.Common.{◌≡◌, ℕ, ◌≤◌, List, [], ◌∷◌, ◌++◌, map, Some, None, Option, sym, refl, ap, ◌∙◌, subst, le_refl, arith}
+use Rattle.std.proofs.Common.{◌≡◌, ℕ, ◌≤◌, List, [], ◌∷◌, ◌++◌, map, Some, None}
+use Rattle.std.proofs.Common.{Option, sym, refl, ap, ◌∙◌, subst, le_refl, arith}
 use Rattle.transfer.specs.declared.outcome.OutcomeKind.{OutcomeKind}
 use Rattle.transfer.specs.declared.outcome.OutcomeKind.TheVariants.{Done, NoAnswer, Refused}
 use Rattle.transfer.specs.Transfer.{TransferModel}
 use Rattle.transfer.specs.Leg.{LegModel}
 use Rattle.device.specs.Device.{Behaviour}
 use Rattle.law.specs.Bank.{Bank, bank_map}
-use Rattle.law.specs.TransferResult.{AddressedDevice, DeviceInLeg, device_after_leg, leg_result, TransferResult, result_at_stop, result_after_leg, outcome_of_kind, transfer_result}
-use Rattle.master.specs.Cursor.{at_end, at_restart, in_leg, Notes, CursorModel, cursor_at, new_cursor, outcome_of, reported_bytes}
+use Rattle.law.specs.TransferResult.{AddressedDevice, DeviceInLeg, device_after_leg, leg_result, TransferResult}
+use Rattle.law.specs.TransferResult.{result_at_stop, result_after_leg, outcome_of_kind, transfer_result}
+use Rattle.master.specs.Cursor.{at_end, at_restart, in_leg, Notes, CursorModel}
+use Rattle.master.specs.Cursor.{cursor_at, new_cursor, outcome_of, reported_bytes}
 use Rattle.port.specs.Port.{PortModel}
 use Rattle.master.specs.Script.{transfers}
 use Rattle.law.specs.Letter.{Letter, stop, restart, bit_letter}
@@ -26,16 +29,20 @@ module _ (ds : List Behaviour) where
 
   -- within n slots a transfer played bit by bit comes to what it comes to byte by byte
   pub record Agrees (t : TransferModel) (d : Bank AddressedDevice ds) (n : ℕ) : Type 0 where
-    pub same_letters : string transfers (ports_side ds) n (new_cursor t) (opened_ports d) ≡ (transfer_result ds t d).letters
-    pub same_outcome : outcome_of (final transfers (ports_side ds) n (new_cursor t) (opened_ports d)) ≡ (transfer_result ds t d).outcome
-    pub same_devices : last transfers (ports_side ds) n (new_cursor t) (opened_ports d) ≡ idle_ports ds (transfer_result ds t d).devices
+    pub same_letters :
+        string transfers (ports_side ds) n (new_cursor t) (opened_ports d) ≡ (transfer_result ds t d).letters
+    pub same_outcome :
+        outcome_of (final transfers (ports_side ds) n (new_cursor t) (opened_ports d)) ≡ (transfer_result ds t d).outcome
+    pub same_devices :
+        last transfers (ports_side ds) n (new_cursor t) (opened_ports d) ≡ idle_ports ds (transfer_result ds t d).devices
     -- the ports pull SDA only where the script listens
     pub quiet : (m : ℕ) → QuietFor transfers (ports_side ds) m (new_cursor t) (opened_ports d)
 
   abbrev Goes : CursorModel → Bank PortModel ds → List Letter → CursorModel → Bank PortModel ds → Type 0
   Goes c s ts e u = Comes transfers (ports_side ds) slots_left c s ts e u
 
-  outcome_is : (k : OutcomeKind) (xs : List ℕ) → record { kind = k; bytes = reported_bytes k xs } ≡ outcome_of_kind ds k xs
+  outcome_is : (k : OutcomeKind) (xs : List ℕ) →
+      record { kind = k; bytes = reported_bytes k xs } ≡ outcome_of_kind ds k xs
   outcome_is k xs = grind arith
 
   -- leg l, after the bytes ys of an earlier one, before its first bit
@@ -63,10 +70,12 @@ module _ (ds : List Behaviour) where
   leg_goes : (g : LegModel) (l : ℕ) (o : Option LegModel) (ys : List ℕ) (d : Bank AddressedDevice ds)
       (ts : List Letter) (e : CursorModel) (v : Bank PortModel ds) → IsLegalLeg g →
       let r = leg_result ds l g d in
-      ((u : Bank PortModel ds) → Rests ds u r.devices → Goes (closing r.kind o (notes l (ys ++ r.bytes) 0 r.kind)) u ts e v) →
+      ((u : Bank PortModel ds) → Rests ds u r.devices →
+          Goes (closing r.kind o (notes l (ys ++ r.bytes) 0 r.kind)) u ts e v) →
       Goes (in_call g l o ys) (called d) (map bit_letter r.levels ++ ts) e v
   leg_goes g l o ys d ts e v h k =
-      through transfers (ports_side ds) slots_left some_left fewer (leg_result ds l g d).levels (in_call g l o ys) (called d) ts e v
+      through transfers (ports_side ds) slots_left some_left fewer (leg_result ds l g d).levels
+          (in_call g l o ys) (called d) ts e v
           (leg_plays ds o (λ c u. Goes c u ts e v) g l ys d h k)
 
   second_leg : (g : LegModel) (ys : List ℕ) (d : Bank AddressedDevice ds) → IsLegalLeg g →
@@ -76,10 +85,12 @@ module _ (ds : List Behaviour) where
   second_leg g ys d h =
       let r = leg_result ds 1 g d in
       let n = notes 1 (ys ++ r.bytes) 0 r.kind in
-      leg_goes g 1 None ys d (stop ∷ []) (cursor_at at_end n) (after_stop r.devices) h (λ u q. last_leg r.kind n r.devices u q)
+      leg_goes g 1 None ys d (stop ∷ []) (cursor_at at_end n) (after_stop r.devices) h
+          (λ u q. last_leg r.kind n r.devices u q)
 
   -- a repeated start, a leg and the stop
-  goes_again : (g : LegModel) (ys : List ℕ) (e : Bank DeviceInLeg ds) (u : Bank PortModel ds) → IsLegalLeg g → Rests ds u e →
+  goes_again : (g : LegModel) (ys : List ℕ) (e : Bank DeviceInLeg ds) (u : Bank PortModel ds) →
+      IsLegalLeg g → Rests ds u e →
       let r = leg_result ds 1 g (bank_map device_after_leg ds e) in
       Goes (cursor_at (at_restart g) (notes 0 ys 0 Done)) u (restart ∷ (map bit_letter r.levels ++ (stop ∷ [])))
           (cursor_at at_end (notes 1 (ys ++ r.bytes) 0 r.kind)) (after_stop r.devices)
@@ -110,7 +121,8 @@ module _ (ds : List Behaviour) where
         shows_stop = ended;
         says = outcome_is r.kind r.bytes;
         comes = leg_goes t.first 0 t.second [] d (stop ∷ []) ended (after_stop r.devices) h
-            (λ u q. subst (λ e. Goes e u (stop ∷ []) ended (after_stop r.devices)) (sym closes) (stops_at n r.devices u q));
+            (λ u q. subst (λ e. Goes e u (stop ∷ []) ended (after_stop r.devices)) (sym closes)
+                (stops_at n r.devices u q));
       }
 
   plays : (g : LegModel) (o : Option LegModel) (d : Bank AddressedDevice ds) → IsLegalLeg g → IsLegalSecond o →
@@ -128,11 +140,13 @@ module _ (ds : List Behaviour) where
         shows_stop = ended;
         says = outcome_is w.kind (r.bytes ++ w.bytes);
         comes = leg_goes g 0 (Some f) [] d ts ended (after_stop w.devices) h
-            (λ u q. subst (λ z. Goes (closing z (Some f) (notes 0 r.bytes 0 z)) u ts ended (after_stop w.devices)) (sym i)
+            (λ u q. subst (λ z. Goes (closing z (Some f) (notes 0 r.bytes 0 z)) u ts ended (after_stop w.devices))
+                (sym i)
                 (goes_again f r.bytes r.devices u j q));
       }
 
-  pub carried_alone : (t : TransferModel) (d : Bank AddressedDevice ds) (n : ℕ) → IsLegal t → slots_left (new_cursor t) ≤ n →
+  pub carried_alone : (t : TransferModel) (d : Bank AddressedDevice ds) (n : ℕ) → IsLegal t →
+      slots_left (new_cursor t) ≤ n →
       Agrees t d n
   carried_alone t d n h b =
       let p = plays t.first t.second d h.first_leg h.second_leg (leg_result ds 0 t.first d).kind refl in

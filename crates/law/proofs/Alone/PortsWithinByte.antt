@@ -1,12 +1,14 @@
 -- The ports at each place of a byte, as functions of the devices carried, and each bit as an equation between them.
-use Rattle.std.proofs.Common.{◌≡◌, ℕ, suc, ◌-◌, ◌/◌, ◌%◌, ◌<◌, Bool, true, false, cond, not, ◌&&◌, ◌||◌, eqb, ltb, List, [], ◌∷◌, sym, refl, ◌∙◌, arith}
+use Rattle.std.proofs.Common.{◌≡◌, ℕ, suc, ◌-◌, ◌/◌, ◌%◌, ◌<◌, Bool, true, false, cond}
+use Rattle.std.proofs.Common.{not, ◌&&◌, ◌||◌, eqb, ltb, List, [], ◌∷◌, refl, arith}
 use lib.Bits.{and_le_r}
 use Rattle.transfer.specs.declared.leg.Direction.{Direction}
 use Rattle.transfer.specs.declared.leg.Direction.TheVariants.{Write, Read}
 use Rattle.device.specs.Device.{Behaviour}
 use Rattle.port.specs.declared.port.Mode.TheVariants.{Out, Addressing, Writing, Acknowledging, Reading}
 use Rattle.law.specs.Bank.{Bank, bank_map, bank_list}
-use Rattle.law.specs.TransferResult.{AddressedDevice, DeviceInLeg, device_after_call, device_put, device_after_take, byte_given_by, device_after_leg, joint_byte, any_in}
+use Rattle.law.specs.TransferResult.{AddressedDevice, DeviceInLeg, device_after_call, device_put}
+use Rattle.law.specs.TransferResult.{device_after_take, byte_given_by, device_after_leg, joint_byte, any_in}
 use Rattle.wire.specs.ByteProgress.{bit_at, shift_in, progress}
 use Rattle.transfer.specs.Leg.{BodyModel, writes, reads, body_direction, direction_of}
 use Rattle.transfer.specs.Address.{answers_to}
@@ -128,7 +130,8 @@ reading_pulls [] d k e = rw (ones k e)
 reading_pulls (b ∷ ds) d k e =
     let x = byte_given_by b d.0 in
     let y = joint_byte (bank_list byte_given_by ds d.1) in
-    rw (show_one b d.0 k e, reading_pulls ds d.1 k e, digit_and x y (7 - k)) (not_and (bit_at x (7 - k)) (bit_at y (7 - k)))
+    rw (show_one b d.0 k e, reading_pulls ds d.1 k e, digit_and x y (7 - k))
+        (not_and (bit_at x (7 - k)) (bit_at y (7 - k)))
 
 -- what a bit makes of all ports at each place, and whether they pull SDA there
 module _ (ds : List Behaviour) where
@@ -144,7 +147,8 @@ module _ (ds : List Behaviour) where
   pub address_more : (d : Bank AddressedDevice ds) (k v : ℕ) (x : Bool) → ltb k 7 ≡ true →
       D.bit (bank_map (addressing_at k v) ds d) x ≡ bank_map (addressing_at (suc k) (shift_in v x)) ds d
   address_more d k v x e =
-      each_each (addressing_at k v) (counting x) (addressing_at (suc k) (shift_in v x)) (λ b p. address_one b p k v x e) ds d
+      each_each (addressing_at k v) (counting x) (addressing_at (suc k) (shift_in v x))
+          (λ b p. address_one b p k v x e) ds d
 
   -- the last bit of the address byte asks the devices that it calls
   pub address_full : (d : Bank AddressedDevice ds) (v : ℕ) (x : Bool) →
@@ -179,7 +183,8 @@ module _ (ds : List Behaviour) where
   write_on d x = each_each (acknowledging_at Write) (counting x) (writing_at 0 0) (λ b p. write_on_one b p x) ds d
 
   -- after the A of a call to read those in give their first byte
-  pub read_on : (d : Bank DeviceInLeg ds) → D.bit (bank_map (acknowledging_at Read) ds d) false ≡ bank_map (reading_at 0) ds d
+  pub read_on : (d : Bank DeviceInLeg ds) →
+      D.bit (bank_map (acknowledging_at Read) ds d) false ≡ bank_map (reading_at 0) ds d
   read_on d = each_each (acknowledging_at Read) (counting false) (reading_at 0) read_on_one ds d
 
   -- and after its N nobody gives any
@@ -212,8 +217,10 @@ module _ (ds : List Behaviour) where
   pub write_quiet : (d : Bank DeviceInLeg ds) (k v : ℕ) → D.pulls (bank_map (writing_at k v) ds d) ≡ false
   write_quiet d k v = none_each (writing_at k v) pulling (λ b p. writing_still k v p.inside) ds d
 
-  pub acknowledge_pulls : (d : Bank DeviceInLeg ds) (r : Direction) → D.pulls (bank_map (acknowledging_at r) ds d) ≡ any_in ds d
-  acknowledge_pulls d r = any_each (acknowledging_at r) pulling (λ b p. p.inside) (λ b p. acknowledge_one r p.inside) ds d
+  pub acknowledge_pulls : (d : Bank DeviceInLeg ds) (r : Direction) →
+      D.pulls (bank_map (acknowledging_at r) ds d) ≡ any_in ds d
+  acknowledge_pulls d r =
+      any_each (acknowledging_at r) pulling (λ b p. p.inside) (λ b p. acknowledge_one r p.inside) ds d
 
   pub eighth_quiet : (d : Bank DeviceInLeg ds) → D.pulls (bank_map (reading_at 8) ds d) ≡ false
   eighth_quiet d = none_each (reading_at 8) pulling (λ b p. eighth_still (byte_given_by b p) p.inside) ds d

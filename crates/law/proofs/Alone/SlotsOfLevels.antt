@@ -1,5 +1,6 @@
 -- Slots that carry given levels, and what a script played alone comes to.
-use Rattle.std.proofs.Common.{◌≡◌, ℕ, zero, suc, ◌-◌, ◌/◌, ◌<◌, ◌≤◌, Bool, true, false, not, ltb, ◌⊎◌, List, [], ◌∷◌, ◌++◌, map, sym, refl, ap, ◌∙◌, div-one, arith}
+use Rattle.std.proofs.Common.{◌≡◌, ℕ, zero, suc, ◌-◌, ◌/◌, ◌<◌, ◌≤◌, Bool, true, false, not, ltb}
+use Rattle.std.proofs.Common.{◌⊎◌, List, [], ◌∷◌, ◌++◌, map, sym, refl, ap, ◌∙◌, div-one, arith}
 use native.Mathlib.Nat.{div-eq_of_lt}
 use Rattle.master.specs.declared.symbol.Symbol.{Symbol}
 use Rattle.master.specs.declared.symbol.Symbol.TheVariants.{Listen, RepeatedStart}
@@ -28,7 +29,8 @@ module _ (D : Side) where
     pub open_is : ends x ≡ false
     pub quiet_is : (x ≡ Listen → ⊥) → D.pulls s ≡ false
 
-  pub level_slot : (x : Symbol) (s : D.S) (b : Bool) → CarriesLevel x (D.pulls s) b → Slot x s (bit_letter b) b (D.bit s b)
+  pub level_slot : (x : Symbol) (s : D.S) (b : Bool) → CarriesLevel x (D.pulls s) b →
+      Slot x s (bit_letter b) b (D.bit s b)
   level_slot x s b h = grind arith
 
 module _ (W : Script) (D : Side) where

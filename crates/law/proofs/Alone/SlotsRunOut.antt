@@ -1,8 +1,9 @@
--- A cursor runs out of slots: it has one left or more, fewer after each, and at an opening no more than a string may have letters.
+-- A cursor runs out of slots: it always has one left, fewer after each, and at an opening no more than most_letters.
 use Rattle.std.proofs.Common.{◌≡◌, ℕ, suc, ◌+◌, ◌-◌, ◌*◌, ◌<◌, ◌≤◌, Bool, false, Some, None, Option, arith}
 use Rattle.transfer.specs.Transfer.{TransferModel}
 use Rattle.transfer.specs.Leg.{LegModel}
-use Rattle.master.specs.Cursor.{Play, at_end, at_restart, in_leg, CursorModel, leg_size, symbol_of, cursor_next, new_cursor}
+use Rattle.master.specs.Cursor.{Play, at_end, at_restart, in_leg, CursorModel}
+use Rattle.master.specs.Cursor.{leg_size, symbol_of, cursor_next, new_cursor}
 use Rattle.law.proofs.FarSide.{ends}
 use Rattle.law.specs.Legal.{IsLegal}
 use Rattle.law.specs.Limits.{bits_of_byte, letters_of_byte, most_letters}
@@ -31,7 +32,8 @@ play_some p = grind arith
 pub some_left : (c : CursorModel) → 1 ≤ slots_left c
 some_left c = play_some c.play
 
-pub fewer : (c : CursorModel) (heard : Bool) → ends (symbol_of c.play) ≡ false → slots_left (cursor_next c heard) < slots_left c
+pub fewer : (c : CursorModel) (heard : Bool) → ends (symbol_of c.play) ≡ false →
+    slots_left (cursor_next c heard) < slots_left c
 fewer c heard h = grind arith
 
 pub at_most : (t : TransferModel) → IsLegal t → slots_left (new_cursor t) ≤ most_letters

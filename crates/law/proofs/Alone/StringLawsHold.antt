@@ -1,5 +1,6 @@
--- The laws of strings: one stop, at the end; at most most_letters letters; none begins another; the string says the outcome.
-use Rattle.std.proofs.Common.{◌≡◌, ℕ, suc, ◌≤◌, Bool, cond, ltb, ◌⊎◌, List, [], ◌∷◌, ◌++◌, map, length, Some, None, Option, sym, refl, ap, ◌∙◌, inl, inr, append_assoc, le_refl, arith}
+-- The laws of strings hold: one stop, at the end; at most most_letters letters; none begins another; it says the outcome.
+use Rattle.std.proofs.Common.{◌≡◌, ℕ, suc, ◌≤◌, Bool, cond, ltb, ◌⊎◌, List, [], ◌∷◌, ◌++◌, map, length, Some}
+use Rattle.std.proofs.Common.{None, Option, sym, refl, ap, ◌∙◌, inl, inr, append_assoc, le_refl, arith}
 use Rattle.std.specs.Prelude.{slice_index_or}
 use Rattle.std.proofs.Math.Seq.{get_or-append_seam}
 use Rattle.std.proofs.lemmas.Bool.{ne_eqb}
@@ -9,7 +10,8 @@ use Rattle.transfer.specs.Transfer.{TransferModel}
 use Rattle.transfer.specs.Leg.{LegModel}
 use Rattle.device.specs.Device.{Behaviour}
 use Rattle.law.specs.Bank.{Bank, bank_map}
-use Rattle.law.specs.TransferResult.{AddressedDevice, device_after_leg, leg_result, LegResult, result_after_leg, transfer_result}
+use Rattle.law.specs.TransferResult.{AddressedDevice, device_after_leg, leg_result}
+use Rattle.law.specs.TransferResult.{LegResult, result_after_leg, transfer_result}
 use Rattle.master.specs.Cursor.{at_end, cursor_at, new_cursor, outcome_of}
 use Rattle.master.specs.Script.{Script, transfers}
 use Rattle.law.specs.Letter.{Letter, stop, restart, rank, bit_letter, first_or_same}
@@ -18,7 +20,8 @@ use Rattle.law.proofs.Alone.CursorsStayAlike.{open_alike}
 use Rattle.law.proofs.Alone.PlayedIsCarried.{opened_ports, agrees}
 use Rattle.law.specs.Legal.{IsLegal}
 use Rattle.law.specs.Limits.{most_letters}
-use Rattle.law.specs.Facts.{WithoutStop, OneStop, IsParting, IsBit, ZeroAgainstOne, condition, SameConditions, StringLaws}
+use Rattle.law.specs.Facts.{WithoutStop, OneStop, IsParting, IsBit, ZeroAgainstOne}
+use Rattle.law.specs.Facts.{condition, SameConditions, StringLaws}
 use Rattle.law.proofs.Alone.PortsAsSide.{ports_side}
 use Rattle.law.proofs.Alone.SlotsRunOut.{slots_left, at_most}
 use Rattle.law.proofs.LetterByRank.{same_rank, cases_letter}
@@ -92,7 +95,8 @@ zero_against_one t u h k e = grind arith
 bits_or_same : (t u : Letter) → (t ≡ u → ⊥) → condition t ≡ condition u → ZeroAgainstOne t u
 bits_or_same t u h k = grind arith
 
-bits_decide : (ts us : List Letter) (p : IsParting ts us) → SameConditions ts us → ZeroAgainstOne p.one_letter p.other_letter
+bits_decide : (ts us : List Letter) (p : IsParting ts us) → SameConditions ts us →
+    ZeroAgainstOne p.one_letter p.other_letter
 bits_decide ts us p h =
     let k = length p.front in
     let one_at : slice_index_or ts k stop ≡ p.one_letter =
@@ -145,7 +149,8 @@ module _ (ds : List Behaviour) where
   carried_stop : (t : TransferModel) (d : Bank AddressedDevice ds) → OneStop (transfer_result ds t d).letters
   carried_stop t d = let r = leg_result ds 0 t.first d in one_stop r r.kind t.second
 
-  short : (t : TransferModel) (d : Bank AddressedDevice ds) → IsLegal t → length (transfer_result ds t d).letters ≤ most_letters
+  short : (t : TransferModel) (d : Bank AddressedDevice ds) → IsLegal t →
+      length (transfer_result ds t d).letters ≤ most_letters
   short t d h =
       let n = slots_left (new_cursor t) in
       let played = string transfers (ports_side ds) n (new_cursor t) (opened_ports ds d) in
@@ -153,7 +158,8 @@ module _ (ds : List Behaviour) where
       omega (arith, bounded transfers (ports_side ds) n (new_cursor t) (opened_ports ds d), at_most t h)
 
 module _ (ds es : List Behaviour) where
-  same_outcome : (t u : TransferModel) (d : Bank AddressedDevice ds) (e : Bank AddressedDevice es) → IsLegal t → IsLegal u →
+  same_outcome : (t u : TransferModel) (d : Bank AddressedDevice ds) (e : Bank AddressedDevice es) →
+      IsLegal t → IsLegal u →
       (transfer_result ds t d).letters ≡ (transfer_result es u e).letters →
       (transfer_result ds t d).outcome ≡ (transfer_result es u e).outcome
   same_outcome t u d e h k q =
@@ -164,7 +170,8 @@ module _ (ds es : List Behaviour) where
       let twins : Twins (new_cursor t) (new_cursor u) =
           record { one_way = open_alike t u h k; back = open_alike u t k h; notes_same = refl } in
       let same_notes =
-          same_end (ports_side ds) (ports_side es) n m (new_cursor t) (new_cursor u) (opened_ports ds d) (opened_ports es e) twins
+          same_end (ports_side ds) (ports_side es) n m (new_cursor t) (new_cursor u)
+              (opened_ports ds d) (opened_ports es e) twins
               (le_refl n) (le_refl m) (a.same_letters ∙ q ∙ sym b.same_letters) in
       sym a.same_outcome ∙ ap (λ n. outcome_of (cursor_at at_end n)) same_notes ∙ b.same_outcome
 

@@ -1,5 +1,6 @@
 -- Equal strings, over whatever ports, end with equal notes.
-use Rattle.std.proofs.Common.{◌≡◌, ℕ, zero, suc, ◌≤◌, Bool, true, false, cond, List, [], ◌∷◌, sym, refl, ap, ◌∙◌, subst, arith}
+use Rattle.std.proofs.Common.{◌≡◌, ℕ, zero, suc, ◌≤◌, Bool, true, false, cond}
+use Rattle.std.proofs.Common.{List, [], ◌∷◌, sym, refl, ap, ◌∙◌, subst, arith}
 use Rattle.std.proofs.lemmas.Bool.{true≢false, false≢true}
 use Rattle.master.specs.declared.symbol.Symbol.{Symbol}
 use Rattle.master.specs.Cursor.{Play, Notes, CursorModel, symbol_of, cursor_next}
@@ -23,7 +24,8 @@ module _ (D : Side) where
   heard_is x s = grind arith
 
 -- cursors that stay alike note the same
-alike_notes : (p q : Play) (n : Notes) (h : Bool) → AlikePlay p q → symbol_of p ≡ symbol_of q → notes_on p n h ≡ notes_on q n h
+alike_notes : (p q : Play) (n : Notes) (h : Bool) → AlikePlay p q → symbol_of p ≡ symbol_of q →
+    notes_on p n h ≡ notes_on q n h
 alike_notes p q n h k e = grind arith
 
 -- cursors that note the same, and go on to while they show the same
@@ -32,7 +34,8 @@ pub record Twins (c e : CursorModel) : Type 0 where
   pub back : Alike e c
   pub notes_same : c.notes ≡ e.notes
 
-still_twins : (c e : CursorModel) (b : Bool) → Twins c e → symbol_of c.play ≡ symbol_of e.play → Twins (cursor_next c b) (cursor_next e b)
+still_twins : (c e : CursorModel) (b : Bool) → Twins c e → symbol_of c.play ≡ symbol_of e.play →
+    Twins (cursor_next c b) (cursor_next e b)
 still_twins c e b h k = record {
   one_way = cursor_laws.still_alike c e b h.one_way k;
   back = cursor_laws.still_alike e c b h.back (sym k);
@@ -48,7 +51,8 @@ module _ (D E : Side) where
 
   -- twins that spell the same string alone, within n and within k slots, end with the same notes
   abbrev SameEnd : ℕ → ℕ → CursorModel → CursorModel → D.S → E.S → Type 0
-  SameEnd n k c e s t = Twins c e → slots_left c ≤ n → slots_left e ≤ k → string transfers D n c s ≡ string transfers E k e t →
+  SameEnd n k c e s t = Twins c e → slots_left c ≤ n → slots_left e ≤ k →
+      string transfers D n c s ≡ string transfers E k e t →
       (final transfers D n c s).notes ≡ (final transfers E k e t).notes
 
   pub same_end : (n k : ℕ) (c e : CursorModel) (s : D.S) (t : E.S) → SameEnd n k c e s t
@@ -76,7 +80,8 @@ module _ (D E : Side) where
 
       go : (i j : Bool) → ends x ≡ i → ends y ≡ j →
           ◌≡◌ {A = List Letter}
-              (letter D x s ∷ cond i [] (string transfers D n c' s')) (letter E y t ∷ cond j [] (string transfers E k e' t')) →
+              (letter D x s ∷ cond i [] (string transfers D n c' s'))
+              (letter E y t ∷ cond j [] (string transfers E k e' t')) →
           SameEnd n k c' e' s' t' →
           (cond i c (final transfers D n c' s')).notes ≡ (cond j e (final transfers E k e' t')).notes
       go true true p w v ih = h.notes_same
