@@ -12,6 +12,7 @@ cases_letter t u = grind arith
 pub same_is : (t u : Letter) → same_letter t u ≡ true → t ≡ u
 same_is t u h = same_rank t u (eqb-true (rank t) (rank u) h)
 
+-- strings that compare the same are the same
 pub same_of : (ts us : List Letter) → same_string ts us ≡ true → ts ≡ us
 same_of [] [] h = refl
 same_of [] (u ∷ us) h = cc

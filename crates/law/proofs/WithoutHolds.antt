@@ -39,6 +39,7 @@ module _ (b : Behaviour) where
       either (λ h. port_step b p s h) h (asks_hold b p s)
           (λ e. never (port_step b p s h).meaning h (may e)) (unasked p s.event s.bit h 0)
 
+-- so all ports, where no device may hold
 ports_unheld : (ds : List Behaviour) (p : Bank PortModel ds) (s : Signal) (a : HoldAnswers ds) →
     NeverHold ds → AllMayAnswer ds p s a →
     ports_step ds p s a ≡ ports_step ds p s (no_holds ds)
@@ -67,6 +68,7 @@ module _ (hs : List HostBehaviour) (ds : List Behaviour) where
   unless true r x y e = refl
   unless false r x y e = e refl
 
+  -- the ticks of a run that are left
   goes_on_unheld : (n : ℕ) (a : ℕ → HoldAnswers ds) (r : Running hs ds) → NeverHold ds → RunTicksAnswered hs ds n a r →
       run_after_ticks hs ds n a r ≡ run_after_ticks hs ds n (λ k. no_holds ds) r
   goes_on_unheld zero a r never may = refl

@@ -3,7 +3,7 @@ use Rattle.std.proofs.Common.{◌≡◌, ℕ, zero, suc, ◌+◌, ◌-◌, ◌*�
 use Rattle.std.proofs.Common.{List, [], ◌∷◌, length, take, sym, refl, ◌∙◌, inl, inr, mod-eq_of_lt, arith}
 use Rattle.std.specs.Prelude.{slice_index_or}
 use lib.Bits.{bit_and, and_mask, and_comm}
-use Rattle.std.proofs.lemmas.Bool.{lt-ltb, or_cases, or_parts}
+use Rattle.std.proofs.lemmas.Bool.{lt-ltb, and_parts, and_from, or_cases, or_parts}
 use Rattle.transfer.specs.declared.leg.Direction.{Direction}
 use Rattle.transfer.specs.declared.leg.Direction.TheVariants.{Write, Read}
 use Rattle.transfer.specs.declared.outcome.OutcomeKind.TheVariants.{Done, NoAnswer, Refused}
@@ -20,10 +20,7 @@ use Rattle.law.proofs.Alone.StepsOfBanks.{any}
 use Rattle.law.proofs.Alone.BitsOfByte.{ones, digit_and}
 use Rattle.law.proofs.Alone.PortsWithinByte.{called_for, put_to_all}
 
-and_true : (x y : Bool) → ((x && y) ≡ true) ↔ ((x ≡ true) × (y ≡ true))
-and_true x y = grind arith
-
--- where a step makes one of a bank answer, one of the bank is of this kind
+-- where one of a bank answers true after a step, one of the bank is what that says
 some_each : {F G : Behaviour → Type 0}
     (g : (b : Behaviour) → F b → G b) (q : (b : Behaviour) → G b → Bool) (A R : (b : Behaviour) → F b → Type 0) →
     ((b : Behaviour) (x : F b) → A b x → q b (g b x) ≡ true → R b x) →
@@ -153,22 +150,28 @@ all_gave : (ds : List Behaviour) (e : Bank DeviceInLeg ds) (k : ℕ) → bit_at 
     (bit_at (byte_of_devices ds e) k ≡ true) ↔ BankAll (Gives k) ds e
 all_gave [] e k h = ((λ _. tt), λ _. h)
 all_gave (b ∷ ds) e k h =
+    let x = byte_given_by b e.0 in
+    let y = byte_of_devices ds e.1 in
     let first = gave_one b e.0 k h in
     let rest = all_gave ds e.1 k h in
-    let both = and_true (bit_at (byte_given_by b e.0) k) (bit_at (byte_of_devices ds e.1) k) in
-    let bit = digit_and (byte_given_by b e.0) (byte_of_devices ds e.1) k in
-    ((λ q. let w = both.0 (sym bit ∙ q) in (first.0 w.0, rest.0 w.1)), λ w. bit ∙ both.1 (first.1 w.0, rest.1 w.1))
+    let both : bit_at (bit_and x y) k ≡ (bit_at x k && bit_at y k) = digit_and x y k in (
+      (λ q. let w = and_parts (bit_at x k) (bit_at y k) (sym both ∙ q) in (first.0 w.0, rest.0 w.1)),
+      λ w. both ∙ and_from (bit_at x k) (bit_at y k) (first.1 w.0) (rest.1 w.1),
+    )
 
+-- a byte of ones has 1 at each bit
 low_ones : (k : ℕ) → k < 8 → bit_at 255 k ≡ true
 low_ones k h = let e : 7 - (7 - k) ≡ k = omega arith in rw e at (ones (7 - k) (lt-ltb (7 - k) 8 (omega arith)))
 
 pub mask : (x : ℕ) → x < 256 → bit_and x 255 ≡ x
 mask x h = and_mask x 8 ∙ mod-eq_of_lt h
 
+-- a byte that nobody gives is all ones
 none_gave : (ds : List Behaviour) (e : Bank DeviceInLeg ds) → any_in ds e ≡ false → byte_of_devices ds e ≡ 255
 none_gave [] e h = refl
 none_gave (b ∷ ds) e h = let w = or_parts e.0.inside (any_in ds e.1) h in rw (w.0, none_gave ds e.1 w.1)
 
+-- and one that only one device gives is that device's
 only_gave : (ds : List Behaviour) (e : Bank DeviceInLeg ds) (x : ℕ) → x < 256 → Only ds e x → byte_of_devices ds e ≡ x
 only_gave [] e x h k = elim k [ ]
 only_gave (b ∷ ds) e x h (inl k) = rw (k.0, k.1, none_gave ds e.1 k.2) (mask x h)

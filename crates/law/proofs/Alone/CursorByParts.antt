@@ -1,4 +1,4 @@
--- Where a cursor goes and what it notes, each by itself.
+-- A cursor is a place and notes, and each goes on by itself.
 use Rattle.std.proofs.Common.{◌≡◌, ℕ, suc, Bool, true, false, cond, ◌&&◌, ltb}
 use Rattle.std.proofs.Common.{[], ◌∷◌, ◌++◌, Some, None, Option, arith}
 use Rattle.transfer.specs.Leg.{LegModel}
@@ -36,7 +36,7 @@ notes_on (in_leg g o y b) n heard = cond (ltb b 8)
         (record { leg = n.leg; bytes = n.bytes; value = n.value; kind = failure_kind n.leg y })
         (kept (master_sends g y) n))
 
--- a cursor goes by both
+-- a cursor goes on by both
 pub next_is : (p : Play) (n : Notes) (heard : Bool) →
     play_next p n heard ≡ cursor_at (moves p heard) (notes_on p n heard)
 next_is p n heard = grind arith

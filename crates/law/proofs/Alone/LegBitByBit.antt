@@ -67,6 +67,7 @@ even_write a = grind (arith, nat_tests)
 odd_read : (a : ℕ) → eqb ((a * 2 + 1) % 2) 1 ≡ true
 odd_read a = grind (arith, nat_tests)
 
+-- and so does the byte that a transfer sends
 pub calls : (a : ℕ) (b : BodyModel) → a < 128 → Calls (leg a b) (call_byte a b)
 calls a (writes xs) h = record {
   sent_is = refl;
@@ -93,13 +94,13 @@ here [] (suc y) x zs e = cc
 here (w ∷ ws) zero x zs e = record { found = cc; rest = cc; inside = omega arith }
 here (w ∷ ws) (suc y) x zs e = grind (arith, here ws y)
 
--- no byte y
+-- y bytes or fewer
 over : (xs : List ℕ) (y : ℕ) → drop y xs ≡ [] → length xs ≤ y
 over [] y e = omega arith
 over (w ∷ ws) zero e = cc
 over (w ∷ ws) (suc y) e = omega (arith, over ws y e)
 
--- any leg o to come, and whatever K is to hold after the leg
+-- a leg with o to come, after which K is to hold
 module _ (ds : List Behaviour) (o : Option LegModel) (K : CursorModel → Bank PortModel ds → Type 0) where
   -- these levels are carried, and then K
   abbrev Goes : CursorModel → Bank PortModel ds → List Bool → Type 0
@@ -175,7 +176,7 @@ module _ (ds : List Behaviour) (o : Option LegModel) (K : CursorModel → Bank P
       gathers : (k v : ℕ) (b : Bool) → ltb k 8 ≡ true → cursor_next (place k v) b ≡ place (suc k) (shift_in v b)
       gathers k v b e = rw e
 
-  -- the acknowledge that the master listens for: A
+  -- after A for a byte of its own the master goes on
   heard_yes : (g : LegModel) (y : ℕ) (m : Notes) (r : Direction) (e : Bank DeviceInLeg ds)
       (u : Bank PortModel ds) (bs : List Bool) →
       master_sends g y ≡ true → any_in ds e ≡ true →
@@ -183,7 +184,7 @@ module _ (ds : List Behaviour) (o : Option LegModel) (K : CursorModel → Bank P
       Goes (after_byte g o y m) u bs → Goes (at_bit g y 8 m) (bank_map (acknowledging_at r) ds e) (false ∷ bs)
   heard_yes g y m r e u bs a i q k = (inr (rw a, rw (acknowledge_pulls ds e r, i)), rw (a, q) k)
 
-  -- N
+  -- and after N it ends
   heard_no : (g : LegModel) (y l : ℕ) (xs : List ℕ) (r : Direction) (e : Bank DeviceInLeg ds) (u : Bank PortModel ds) →
       master_sends g y ≡ true → any_in ds e ≡ false →
       (ports_side ds).bit (bank_map (acknowledging_at r) ds e) true ≡ u →
@@ -196,7 +197,7 @@ module _ (ds : List Behaviour) (o : Option LegModel) (K : CursorModel → Bank P
   Ends l xs r = (u : Bank PortModel ds) → Rests ds u r.devices →
       K (closing r.kind o (notes l (xs ++ r.bytes) 0 r.kind)) u
 
-  -- leg l writes xs; ys were read before it
+  -- leg l, a write of xs, after the bytes ys of an earlier leg
   module _ (a l : ℕ) (xs ys : List ℕ) where
     -- the bytes zs of it, from byte y on
     write_bytes : (zs : List ℕ) (y : ℕ) (d : Bank DeviceInLeg ds) →
@@ -240,7 +241,7 @@ module _ (ds : List Behaviour) (o : Option LegModel) (K : CursorModel → Bank P
             (heard_no g (suc y) l ys Write w u refl i (write_on ds w true)
                 (rw append-nil at (k u (rests_writing ds w))))
 
-  -- byte y of a read of c, with n to come after it
+  -- leg l, a read of c bytes: byte y, with n to come after it, and ys read so far
   read_bytes : (a c l : ℕ) (ys : List ℕ) (n y : ℕ) (d : Bank DeviceInLeg ds) → y + suc n ≡ c →
       Ends l ys (read_result ds (suc n) d) →
       Goes (at_bit (read_leg a c) (suc y) 0 (notes l ys 0 Done)) (bank_map (reading_at 0) ds d)
@@ -265,7 +266,7 @@ module _ (ds : List Behaviour) (o : Option LegModel) (K : CursorModel → Bank P
                 (read_bytes a c l (ys ++ (x ∷ [])) n (suc y) w (omega arith) (λ u q. rw append_assoc (k u q))),
           ))
 
-  -- after N nobody is in
+  -- after N for the call the ports wait for the start or stop that follows
   gets_none : (b : BodyModel) (e : Bank DeviceInLeg ds) →
       Rests ds ((ports_side ds).bit (bank_map (acknowledging_at (body_direction b)) ds e) true) e
   gets_none (writes xs) e = rw (write_on ds e true) (rests_writing ds e)

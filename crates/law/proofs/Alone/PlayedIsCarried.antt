@@ -32,9 +32,11 @@ module _ (ds : List Behaviour) where
     pub same_letters :
         string transfers (ports_side ds) n (new_cursor t) (opened_ports d) ≡ (transfer_result ds t d).letters
     pub same_outcome :
-        outcome_of (final transfers (ports_side ds) n (new_cursor t) (opened_ports d)) ≡ (transfer_result ds t d).outcome
+        outcome_of (final transfers (ports_side ds) n (new_cursor t) (opened_ports d)) ≡
+        (transfer_result ds t d).outcome
     pub same_devices :
-        last transfers (ports_side ds) n (new_cursor t) (opened_ports d) ≡ idle_ports ds (transfer_result ds t d).devices
+        last transfers (ports_side ds) n (new_cursor t) (opened_ports d) ≡
+        idle_ports ds (transfer_result ds t d).devices
     -- the ports pull SDA only where the script listens
     pub quiet : (m : ℕ) → QuietFor transfers (ports_side ds) m (new_cursor t) (opened_ports d)
 

@@ -18,7 +18,7 @@ use Rattle.law.proofs.Alone.StepsOfBanks.{any, each_each, each_pair, any_each, n
 use Rattle.law.proofs.Alone.BitsOfByte.{ones, digit_and}
 use Rattle.law.proofs.Alone.PortsAsSide.{counting, starting, stopping, pulling, ports_side, idle_port, idle_ports}
 
--- in the address byte, with n bits counted and the value v
+-- a port in the address byte, with n bits counted and the value v
 abbrev pub addressing_at : ℕ → ℕ → (b : Behaviour) → AddressedDevice b → PortModel b
 addressing_at n v b d = record {
   address = d.address;
@@ -28,7 +28,7 @@ addressing_at n v b d = record {
   hold = 0;
 }
 
--- in a byte that it is given, with n bits counted and the value v
+-- one in a byte that it is given, with n bits counted and the value v
 abbrev pub writing_at : ℕ → ℕ → (b : Behaviour) → DeviceInLeg b → PortModel b
 writing_at n v b d = record {
   address = d.address;
@@ -38,7 +38,7 @@ writing_at n v b d = record {
   hold = 0;
 }
 
--- in the ninth bit of a byte that it was called by or given
+-- one in the ninth bit of a byte that it was called by or given
 abbrev pub acknowledging_at : Direction → (b : Behaviour) → DeviceInLeg b → PortModel b
 acknowledging_at r b d = record {
   address = d.address;
@@ -48,7 +48,7 @@ acknowledging_at r b d = record {
   hold = 0;
 }
 
--- in a byte that it gives, with n bits counted: the byte is taken already
+-- one in a byte that it gives, with n bits counted: the byte is taken already
 abbrev pub reading_at : ℕ → (b : Behaviour) → DeviceInLeg b → PortModel b
 reading_at n b d = record {
   address = d.address;
@@ -58,7 +58,7 @@ reading_at n b d = record {
   hold = 0;
 }
 
--- after the last byte of a leg that it was in
+-- one after the last byte of a leg
 abbrev pub out_at : (b : Behaviour) → DeviceInLeg b → PortModel b
 out_at b d = record { address = d.address; meaning = d.meaning; owed = d.yes; mode = Out; hold = 0 }
 
@@ -119,6 +119,7 @@ not_and : (x y : Bool) → (not x || not y) ≡ not (x && y)
 not_and true y = refl
 not_and false y = refl
 
+-- the byte that all devices give together is a byte
 pub joined_byte : (xs : List ℕ) → joint_byte xs < 256
 joined_byte [] = omega arith
 joined_byte (x ∷ xs) = omega (arith, and_le_r x (joint_byte xs), joined_byte xs)
@@ -177,7 +178,7 @@ module _ (ds : List Behaviour) where
       D.bit (bank_map (reading_at k) ds d) x ≡ bank_map (reading_at (suc k)) ds d
   read_more d k x e = each_each (reading_at k) (counting x) (reading_at (suc k)) (λ b p. read_one b p k x e) ds d
 
-  -- after an acknowledge, A or N, those still in wait for a byte
+  -- after the acknowledge of a call or of a byte, A or N, those still in wait for a byte
   pub write_on : (d : Bank DeviceInLeg ds) (x : Bool) →
       D.bit (bank_map (acknowledging_at Write) ds d) x ≡ bank_map (writing_at 0 0) ds d
   write_on d x = each_each (acknowledging_at Write) (counting x) (writing_at 0 0) (λ b p. write_on_one b p x) ds d

@@ -45,6 +45,7 @@ module _ (W : Script) (D : Side) where
       (cursors : (k v : ℕ) (b : Bool) → ltb k 8 ≡ true → W.next (c k v) b ≡ c (suc k) (shift_in v b))
       (sides : (k v : ℕ) (b : Bool) → ltb k 7 ≡ true → D.bit (s k v) b ≡ s (suc k) (shift_in v b))
       (full : (v : ℕ) (b : Bool) → D.bit (s 7 v) b ≡ t (shift_in v b)) where
+    -- a slot that carries the next bit of x
     one_bit : (k v w : ℕ) (u : D.S) (bs : List Bool) → ltb k 8 ≡ true →
         shift_in v (bit_at x (7 - k)) ≡ w → D.bit (s k v) (bit_at x (7 - k)) ≡ u →
         Carries (c (suc k) w) u bs K → Carries (c k v) (s k v) (bit_at x (7 - k) ∷ bs) K
@@ -94,6 +95,7 @@ module _ (W : Script) (D : Side) (slots_left : W.Cursor → ℕ) where
         goes c s (bit_letter b) b (D.bit s b) (map bit_letter bs ++ ts) e u (level_slot D (W.symbol c) s b h.0)
         (through bs (W.next c b) (D.bit s b) ts e u h.1)
 
+    -- a repeated start goes on, and spells its letter
     pub restarts : (c : W.Cursor) (s : D.S) (ts : List Letter) (e : W.Cursor) (u : D.S) →
         W.symbol c ≡ RepeatedStart → D.pulls s ≡ false →
         Comes (W.next c true) (D.begin s) ts e u → Comes c s (restart ∷ ts) e u

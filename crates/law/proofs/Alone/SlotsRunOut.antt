@@ -17,7 +17,7 @@ abbrev pub slots_after : Option LegModel → ℕ
 slots_after None = 1
 slots_after (Some g) = slots_again g
 
--- at the most
+-- the slots left at a place, at the most
 abbrev pub play_slots : Play → ℕ
 play_slots at_end = 1
 play_slots (at_restart g) = slots_again g

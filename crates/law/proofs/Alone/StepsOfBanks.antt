@@ -15,7 +15,7 @@ pub each_each : {F G H : Behaviour → Type 0}
 each_each f g h e [] d = refl
 each_each f g h e (b ∷ ds) d = λ i. (e b d.0 i, each_each f g h e ds d.1 i)
 
--- two steps are two others
+-- two steps in a row come to two others
 pub each_pair : {F G I H : Behaviour → Type 0}
     (f : (b : Behaviour) → F b → G b) (g : (b : Behaviour) → G b → H b)
     (h : (b : Behaviour) → F b → I b) (k : (b : Behaviour) → I b → H b) →

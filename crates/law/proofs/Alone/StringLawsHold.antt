@@ -1,4 +1,4 @@
--- The laws of strings hold: one stop, at the end; at most most_letters letters; none begins another; it says the outcome.
+-- The laws of strings hold: one stop, at the end; most_letters letters or fewer; none begins another; it says the outcome.
 use Rattle.std.proofs.Common.{◌≡◌, ℕ, suc, ◌≤◌, Bool, cond, ltb, ◌⊎◌, List, [], ◌∷◌, ◌++◌, map, length, Some}
 use Rattle.std.proofs.Common.{None, Option, sym, refl, ap, ◌∙◌, inl, inr, append_assoc, le_refl, arith}
 use Rattle.std.specs.Prelude.{slice_index_or}
@@ -89,12 +89,15 @@ parting (t ∷ ts) (u ∷ us) h k = go (cases_letter t u) (parting ts us h.1 k.1
     go (inl e) (inl r) = inl (λ i. e i ∷ r i)
     go (inl e) (inr r) = inr (rw e (parting_later u vs ws r))
 
+-- two bits that differ are 0 and 1
 zero_against_one : (t u : Letter) → (t ≡ u → ⊥) → IsBit t → IsBit u → ZeroAgainstOne t u
 zero_against_one t u h k e = grind arith
 
+-- letters that differ, with the same condition or none, are 0 and 1
 bits_or_same : (t u : Letter) → (t ≡ u → ⊥) → condition t ≡ condition u → ZeroAgainstOne t u
 bits_or_same t u h k = grind arith
 
+-- strings with the same conditions part at a bit
 bits_decide : (ts us : List Letter) (p : IsParting ts us) → SameConditions ts us →
     ZeroAgainstOne p.one_letter p.other_letter
 bits_decide ts us p h =
