@@ -192,7 +192,7 @@ module _ (ds : List Behaviour) (o : Option LegModel) (K : CursorModel → Bank P
       Goes (at_bit g y 8 (notes l xs 0 Done)) (bank_map (acknowledging_at r) ds e) (true ∷ [])
   heard_no g y l xs r e u a i q k = (inr (rw a, rw (acknowledge_pulls ds e r, i)), rw (a, q) k)
 
-  -- what is to be shown at a leg's end
+  -- K at the end of a leg that came to this
   abbrev Ends : ℕ → List ℕ → LegResult ds → Type 0
   Ends l xs r = (u : Bank PortModel ds) → Rests ds u r.devices →
       K (closing r.kind o (notes l (xs ++ r.bytes) 0 r.kind)) u

@@ -55,7 +55,7 @@ module _ (ds : List Behaviour) where
   abbrev called : Bank AddressedDevice ds → Bank PortModel ds
   called d = bank_map (addressing_at 0 0) ds d
 
-  -- the stop after a leg, where these devices are in it
+  -- the ports after the stop that follows a leg with these devices
   abbrev after_stop : Bank DeviceInLeg ds → Bank PortModel ds
   after_stop e = idle_ports ds (bank_map device_after_leg ds e)
 
@@ -68,7 +68,7 @@ module _ (ds : List Behaviour) where
       Goes (closing k None n) u (stop ∷ []) (cursor_at at_end n) (after_stop e)
   last_leg k n e u h = grind arith
 
-  -- leg number l, after the bytes ys of an earlier one, and what follows it
+  -- leg l, after the bytes ys of an earlier one, and what follows it
   leg_goes : (g : LegModel) (l : ℕ) (o : Option LegModel) (ys : List ℕ) (d : Bank AddressedDevice ds)
       (ts : List Letter) (e : CursorModel) (v : Bank PortModel ds) → IsLegalLeg g →
       let r = leg_result ds l g d in
@@ -143,13 +143,11 @@ module _ (ds : List Behaviour) where
         says = outcome_is w.kind (r.bytes ++ w.bytes);
         comes = leg_goes g 0 (Some f) [] d ts ended (after_stop w.devices) h
             (λ u q. subst (λ z. Goes (closing z (Some f) (notes 0 r.bytes 0 z)) u ts ended (after_stop w.devices))
-                (sym i)
-                (goes_again f r.bytes r.devices u j q));
+                (sym i) (goes_again f r.bytes r.devices u j q));
       }
 
   pub carried_alone : (t : TransferModel) (d : Bank AddressedDevice ds) (n : ℕ) → IsLegal t →
-      slots_left (new_cursor t) ≤ n →
-      Agrees t d n
+      slots_left (new_cursor t) ≤ n → Agrees t d n
   carried_alone t d n h b =
       let p = plays t.first t.second d h.first_leg h.second_leg (leg_result ds 0 t.first d).kind refl in
       record {
@@ -159,6 +157,6 @@ module _ (ds : List Behaviour) where
         quiet = λ m. rw (opened_is ds d) (p.comes.quiet m);
       }
 
-  -- within as many slots as it may take
+  -- within the slots that its cursor has left at the most
   pub agrees : (t : TransferModel) (d : Bank AddressedDevice ds) → IsLegal t → Agrees t d (slots_left (new_cursor t))
   agrees t d h = carried_alone t d (slots_left (new_cursor t)) h (le_refl (slots_left (new_cursor t)))

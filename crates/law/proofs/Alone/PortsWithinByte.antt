@@ -184,7 +184,7 @@ module _ (ds : List Behaviour) where
   write_on d x = each_each (acknowledging_at Write) (counting x) (writing_at 0 0) (λ b p. write_on_one b p x) ds d
 
   -- after the A of a call to read those in give their first byte
-  pub read_on : (d : Bank DeviceInLeg ds) →
+  read_on : (d : Bank DeviceInLeg ds) →
       D.bit (bank_map (acknowledging_at Read) ds d) false ≡ bank_map (reading_at 0) ds d
   read_on d = each_each (acknowledging_at Read) (counting false) (reading_at 0) read_on_one ds d
 

@@ -118,13 +118,13 @@ module _ (W : Script) (D : Side) where
   -- within n slots at most n letters
   bounded : (n : ℕ) (c : W.Cursor) (s : D.S) → length (string W D n c s) ≤ n
   bounded ℕ.zero c s = omega arith
-  bounded (suc n) c s = go (ends (W.symbol c)) (string W D n next then) (bounded n next then)
+  bounded (suc n) c s = go (ends (W.symbol c)) (string W D n next later) (bounded n next later)
     where
       next : W.Cursor
       next = W.next c (heard D (W.symbol c) s)
 
-      then : D.S
-      then = after D (W.symbol c) s
+      later : D.S
+      later = after D (W.symbol c) s
 
       go : (i : Bool) (ts : List Letter) → length ts ≤ n → suc (length (cond i [] ts)) ≤ suc n
       go i ts h = grind arith
