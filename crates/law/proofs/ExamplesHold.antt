@@ -89,8 +89,8 @@ turns =
       more_over_fewer = wins (read_of 3) (read_of 2) (0 ∷ 0 ∷ 0 ∷ []) (registers_at 3) refl refl refl refl;
       equal_writes = λ f g e h.
           turn (busy_over register_file) (busy_registers 0 new_registers) f g write_3_12 write_3_12
-              (done_with []) (done_with [])
-              (busy_registers 1 (stored_at_3 4)) Unarmed Unarmed e h refl refl refl refl;
+          (done_with []) (done_with [])
+          (busy_registers 1 (stored_at_3 4)) Unarmed Unarmed e h refl refl refl refl;
     }
 
 refusals : RefusedExamples

@@ -37,7 +37,7 @@ module _ (b : Behaviour) where
       port_step b p s h ≡ port_step b p s 0
   never_held p s h never may =
       either (λ h. port_step b p s h) h (asks_hold b p s)
-          (λ e. never (port_step b p s h).meaning h (may e)) (unasked p s.event s.bit h 0)
+      (λ e. never (port_step b p s h).meaning h (may e)) (unasked p s.event s.bit h 0)
 
 -- so all ports, where no device may hold
 ports_unheld : (ds : List Behaviour) (p : Bank PortModel ds) (s : Signal) (a : HoldAnswers ds) →
@@ -74,12 +74,12 @@ module _ (hs : List HostBehaviour) (ds : List Behaviour) where
   goes_on_unheld zero a r never may = refl
   goes_on_unheld (suc n) a r never may =
       unless (is_at_rest hs ds r.bus) r _ _ (λ up.
-          goes_on_unheld n a (run_after_tick hs ds r (a r.ticks)) never (may up).1
-          ∙ ap (run_after_ticks hs ds n (λ k. no_holds ds)) (ticked_unheld r (a r.ticks) never (may up).0))
+      goes_on_unheld n a (run_after_tick hs ds r (a r.ticks)) never (may up).1
+      ∙ ap (run_after_ticks hs ds n (λ k. no_holds ds)) (ticked_unheld r (a r.ticks) never (may up).0))
 
   -- and so is a run
   pub run_unheld : (u : BusModel hs ds) (n : ℕ) (a : ℕ → HoldAnswers ds) → NeverHold ds → RunAnswered hs ds u n a →
       run_at hs ds u n a ≡ run_at hs ds u n (λ k. no_holds ds)
   run_unheld u n a never may =
       unless (nat_lt most_ticks n) (Err 8, u) _ _ (λ few.
-          ap (λ r. (Ok (run_report hs ds r), r.bus)) (goes_on_unheld n a (run_start hs ds u) never (may few)))
+      ap (λ r. (Ok (run_report hs ds r), r.bus)) (goes_on_unheld n a (run_start hs ds u) never (may few)))

@@ -16,13 +16,12 @@ use Rattle.wire.specs.ByteProgress.{bit_at}
 use Rattle.transfer.specs.Address.{answers_to}
 use Rattle.law.specs.Facts.{Exists, devices_after_puts, devices_after_takes}
 use Rattle.law.specs.Facts.{byte_of_devices, write_leg, read_leg, Accepts, Only, ByteLaws}
-use Rattle.law.proofs.Alone.StepsOfBanks.{any}
+use Rattle.law.proofs.Alone.StepsOfBanks.{Each, Asks, any}
 use Rattle.law.proofs.Alone.BitsOfByte.{ones, digit_and}
 use Rattle.law.proofs.Alone.PortsWithinByte.{called_for, put_to_all}
 
 -- where one of a bank answers true after a step, one of the bank is what that says
-some_each : {F G : Behaviour → Type 0}
-    (g : (b : Behaviour) → F b → G b) (q : (b : Behaviour) → G b → Bool) (A R : (b : Behaviour) → F b → Type 0) →
+some_each : {F G : Behaviour → Type 0} (g : Each F G) (q : Asks G) (A R : (b : Behaviour) → F b → Type 0) →
     ((b : Behaviour) (x : F b) → A b x → q b (g b x) ≡ true → R b x) →
     (ds : List Behaviour) (d : Bank F ds) → BankAll A ds d → any q ds (bank_map g ds d) ≡ true → Exists R ds d
 some_each g q A R f [] d h e = cc
@@ -31,8 +30,9 @@ some_each g q A R f (b ∷ ds) d h e = elim (or_cases (q b (g b d.0)) (any q ds 
   | inr i ↦ inr (some_each g q A R f ds d.1 h.1 i)
 ]
 
-every_each : {F G : Behaviour → Type 0}
-    (g : (b : Behaviour) → F b → G b) (A : (b : Behaviour) → F b → Type 0) (R : (b : Behaviour) → G b → Type 0) →
+-- what holds of each of a bank gives what holds of each after a step
+every_each : {F G : Behaviour → Type 0} (g : Each F G)
+    (A : (b : Behaviour) → F b → Type 0) (R : (b : Behaviour) → G b → Type 0) →
     ((b : Behaviour) (x : F b) → A b x → R b (g b x)) →
     (ds : List Behaviour) (d : Bank F ds) → BankAll A ds d → BankAll R ds (bank_map g ds d)
 every_each g A R f [] d h = tt
@@ -96,7 +96,7 @@ module _ (ds : List Behaviour) where
       let w = put_to_all ds x e in
       let refused = leg_end ds (Refused (record { leg = l; byte = n })) w in
       heard_so l xs (suc n) w y (omega arith)
-          (later x (write_result ds l xs (suc n) w) refused (any_in ds w) (9 * y + 8) refl (rw (nine y) at q))
+      (later x (write_result ds l xs (suc n) w) refused (any_in ds w) (9 * y + 8) refl (rw (nine y) at q))
 
   -- and it accepted that byte
   put_so : (l a : ℕ) (xs : List ℕ) (d : Bank AddressedDevice ds) (y : ℕ) → y < length xs →
@@ -107,11 +107,11 @@ module _ (ds : List Behaviour) where
       let e = called_for ds a Write d in
       let unanswered = leg_end ds (NoAnswer (record { leg = l })) e in
       let rest =
-          later (a * 2) (write_result ds l xs 0 e) unanswered (any_in ds e) (9 * y + 8) refl (rw (nine y) at q) in
+      later (a * 2) (write_result ds l xs 0 e) unanswered (any_in ds e) (9 * y + 8) refl (rw (nine y) at q) in
       some_each (λ b. device_put b x) (λ b p. p.inside) (Called a) (Accepts a x) (accepts a x)
-          ds (devices_after_puts ds (take y xs) e)
-          (having_called a ds (take y xs) e (all_called a Write ds d))
-          (heard_so l xs 0 e y h rest)
+      ds (devices_after_puts ds (take y xs) e)
+      (having_called a ds (take y xs) e (all_called a Write ds d))
+      (heard_so l xs 0 e y h rest)
 
   -- byte y of a read is what the devices give after y bytes taken
   reads_so : (n : ℕ) (e : Bank DeviceInLeg ds) (y : ℕ) → y < n →

@@ -33,8 +33,8 @@ notes_on (at_restart g) n heard = record { leg = 1; bytes = n.bytes; value = n.v
 notes_on (in_leg g o y b) n heard = cond (ltb b 8)
     (notes_after_bit (master_sends g y) n heard)
     (cond (master_sends g y && heard)
-        (record { leg = n.leg; bytes = n.bytes; value = n.value; kind = failure_kind n.leg y })
-        (kept (master_sends g y) n))
+    (record { leg = n.leg; bytes = n.bytes; value = n.value; kind = failure_kind n.leg y })
+    (kept (master_sends g y) n))
 
 -- a cursor goes on by both
 pub next_is : (p : Play) (n : Notes) (heard : Bool) →

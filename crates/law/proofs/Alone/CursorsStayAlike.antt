@@ -100,16 +100,16 @@ module _ (f g : LegModel) (m o : Option LegModel)
       AlikePlay (moves (in_leg f m y b) heard) (moves (in_leg g o y b) heard)
   sends_alike y b heard c e = elim (cases_lt b 8) [
     | inl d ↦ rw (lt-ltb b 8 d) (inl (record {
-        same_byte = refl;
-        same_bit = refl;
-        one_way = still_one_way f g y b d c e;
-        one_legal = hf;
-        other_legal = hg;
-      }))
+      same_byte = refl;
+      same_bit = refl;
+      one_way = still_one_way f g y b d c e;
+      one_legal = hf;
+      other_legal = hg;
+    }))
     | inr d ↦
         let goes = goes_alike y b d (is_write g.body) (late_one_way f g y b d c) refl e in
         rw (le-ltb b 8 d, same_own f g y b c)
-            (ended_alike (master_sends g y && heard) (goes_on f m y) (goes_on g o y) goes)
+        (ended_alike (master_sends g y && heard) (goes_on f m y) (goes_on g o y) goes)
   ]
 
 -- alike that show the same and hear the same stay alike
@@ -132,7 +132,7 @@ still_alike (in_leg f m x a) at_end t (inl h) e = elim h [ ]
 still_alike (in_leg f m x a) (at_restart g) t (inl h) e = elim h [ ]
 still_alike (in_leg f m x a) (in_leg g o y b) t (inl h) e =
     rw (← h.same_byte, ← h.same_bit)
-        (sends_alike f g m o h.one_legal h.other_legal x a t h.one_way (rw (← h.same_byte, ← h.same_bit) at e))
+    (sends_alike f g m o h.one_legal h.other_legal x a t h.one_way (rw (← h.same_byte, ← h.same_bit) at e))
 
 not_stop : (x : Symbol) → (x ≡ Stop → ⊥) → ends x ≡ false
 not_stop x h = grind arith

@@ -28,7 +28,7 @@ module _ (ds : List Behaviour) where
       QuietFor transfers (ports_side ds) m (new_cursor t) ((ports_side ds).begin s)
   quiet_from_idle t s m k h =
       subst (λ u. QuietFor transfers (ports_side ds) m (new_cursor t) ((ports_side ds).begin u)) (sym h.ports_are)
-          ((agrees ds t h.devices k).quiet m)
+      ((agrees ds t h.devices k).quiet m)
 
   -- and leaves such ports
   pub idle_at_last : (t : TransferModel) (s : Bank PortModel ds) (n : ℕ) → IsLegal t →

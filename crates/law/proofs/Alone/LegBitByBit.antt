@@ -125,14 +125,16 @@ module _ (ds : List Behaviour) (o : Option LegModel) (K : CursorModel → Bank P
       Goes (at_bit g 0 0 m) (bank_map (addressing_at 0 0) ds d) (low_bits 8 x bs)
   address_plays g x m d bs h r =
       byte transfers (ports_side ds) K x (λ k v. at_bit g 0 k m) (λ k v. bank_map (addressing_at k v) ds d)
-          (λ v. bank_map (acknowledging_at (direction_of (eqb (v % 2) 1))) ds
-              (called_for ds (v / 2) (direction_of (eqb (v % 2) 1)) d))
-          (λ k v e. inl (own_shown g 0 k refl e ∙ ap (λ z. bit_symbol (bit_at z (7 - k))) h.sent_is,
-              address_quiet ds d k v))
-          (λ k v b e. own_next g 0 k m b refl e)
-          (λ k v b e. address_more ds d k v b e)
-          (λ v b. address_full ds d v b)
-          bs h.small (rw (h.direction_is, h.address_is) r)
+      (λ v. bank_map (acknowledging_at (direction_of (eqb (v % 2) 1))) ds
+      (called_for ds (v / 2) (direction_of (eqb (v % 2) 1)) d))
+      (λ k v e. inl (
+        own_shown g 0 k refl e ∙ ap (λ z. bit_symbol (bit_at z (7 - k))) h.sent_is,
+        address_quiet ds d k v,
+      ))
+      (λ k v b e. own_next g 0 k m b refl e)
+      (λ k v b e. address_more ds d k v b e)
+      (λ v b. address_full ds d v b)
+      bs h.small (rw (h.direction_is, h.address_is) r)
 
   -- a byte that is written, up to its acknowledge
   pub written_plays : (a : ℕ) (xs : List ℕ) (y x : ℕ) (m : Notes) (d : Bank DeviceInLeg ds) (bs : List Bool) →
@@ -142,13 +144,15 @@ module _ (ds : List Behaviour) (o : Option LegModel) (K : CursorModel → Bank P
   written_plays a xs y x m d bs f h r =
       let g = write_leg a xs in
       byte transfers (ports_side ds) K x (λ k v. at_bit g (suc y) k m) (λ k v. bank_map (writing_at k v) ds d)
-          (λ v. bank_map (acknowledging_at Write) ds (put_to_all ds v d))
-          (λ k v e. inl (own_shown g (suc y) k refl e ∙ ap (λ z. bit_symbol (bit_at z (7 - k))) f,
-              write_quiet ds d k v))
-          (λ k v b e. own_next g (suc y) k m b refl e)
-          (λ k v b e. write_more ds d k v b e)
-          (λ v b. write_full ds d v b)
-          bs h r
+      (λ v. bank_map (acknowledging_at Write) ds (put_to_all ds v d))
+      (λ k v e. inl (
+        own_shown g (suc y) k refl e ∙ ap (λ z. bit_symbol (bit_at z (7 - k))) f,
+        write_quiet ds d k v,
+      ))
+      (λ k v b e. own_next g (suc y) k m b refl e)
+      (λ k v b e. write_more ds d k v b e)
+      (λ v b. write_full ds d v b)
+      bs h r
 
   -- a byte that is read, up to its acknowledge
   read_plays : (a n y l : ℕ) (xs : List ℕ) (d : Bank DeviceInLeg ds) (bs : List Bool) →
@@ -157,12 +161,12 @@ module _ (ds : List Behaviour) (o : Option LegModel) (K : CursorModel → Bank P
       Goes (at_bit (read_leg a n) (suc y) 0 (notes l xs 0 Done)) (bank_map (reading_at 0) ds d) (low_bits 8 x bs)
   read_plays a n y l xs d bs r =
       byte transfers (ports_side ds) K x place (λ k v. bank_map (reading_at k) ds d)
-          (λ v. bank_map (reading_at 8) ds d)
-          (λ k v e. inr (listens k e, ap not (reading_pulls ds d k e) ∙ not_not (bit_at x (7 - k))))
-          gathers
-          (λ k v b e. read_more ds d k b (below k e))
-          (λ v b. read_more ds d 7 b refl)
-          bs (joined_byte (bank_list byte_given_by ds d)) r
+      (λ v. bank_map (reading_at 8) ds d)
+      (λ k v e. inr (listens k e, ap not (reading_pulls ds d k e) ∙ not_not (bit_at x (7 - k))))
+      gathers
+      (λ k v b e. read_more ds d k b (below k e))
+      (λ v b. read_more ds d 7 b refl)
+      bs (joined_byte (bank_list byte_given_by ds d)) r
     where
       x : ℕ
       x = joint_byte (bank_list byte_given_by ds d)
@@ -203,10 +207,10 @@ module _ (ds : List Behaviour) (o : Option LegModel) (K : CursorModel → Bank P
     write_bytes : (zs : List ℕ) (y : ℕ) (d : Bank DeviceInLeg ds) →
         drop y xs ≡ zs → IsOctets zs → Ends l ys (write_result ds l zs y d) →
         Goes (after_byte (write_leg a xs) o y (notes l ys 0 Done)) (bank_map (writing_at 0 0) ds d)
-            (write_result ds l zs y d).levels
+        (write_result ds l zs y d).levels
     write_bytes [] y d e f k =
         rw (le-ltb y (length xs) (over xs y e))
-            (rw append-nil at (k (bank_map (writing_at 0 0) ds d) (rests_writing ds d)))
+        (rw append-nil at (k (bank_map (writing_at 0 0) ds d) (rests_writing ds d)))
     write_bytes (x ∷ zs) y d e f k =
         let r = here xs y x zs e in
         rw (lt-ltb y (length xs) r.inside) (go (any_in ds w) refl k (write_bytes zs (suc y) w r.rest (λ j. f (suc j))))
@@ -239,13 +243,13 @@ module _ (ds : List Behaviour) (o : Option LegModel) (K : CursorModel → Bank P
             (heard_yes g (suc y) m Write w u rest.levels refl i (write_on ds w false) (ih k))
         go false i k ih = written_plays a xs y x m d (true ∷ []) (here xs y x zs e).found (f 0)
             (heard_no g (suc y) l ys Write w u refl i (write_on ds w true)
-                (rw append-nil at (k u (rests_writing ds w))))
+            (rw append-nil at (k u (rests_writing ds w))))
 
   -- leg l, a read of c bytes: byte y, with n to come after it, and ys read so far
   read_bytes : (a c l : ℕ) (ys : List ℕ) (n y : ℕ) (d : Bank DeviceInLeg ds) → y + suc n ≡ c →
       Ends l ys (read_result ds (suc n) d) →
       Goes (at_bit (read_leg a c) (suc y) 0 (notes l ys 0 Done)) (bank_map (reading_at 0) ds d)
-          (read_result ds (suc n) d).levels
+      (read_result ds (suc n) d).levels
   read_bytes a c l ys zero y d e k =
       let h : ltb (suc y) c ≡ false = le-ltb (suc y) c (omega arith) in
       let w = bank_map device_after_take ds d in
@@ -260,11 +264,11 @@ module _ (ds : List Behaviour) (o : Option LegModel) (K : CursorModel → Bank P
       let rest = (read_result ds (suc n) w).levels in
       let at_start = at_bit (read_leg a c) (suc y) 0 (notes l ys 0 Done) in
       subst (λ t. Goes at_start (bank_map (reading_at 0) ds d) (low_bits 8 x (t ∷ rest))) (sym (eqb-suc-zero n))
-          (read_plays a c y l ys d (false ∷ rest) (
-            inl (rw h, eighth_quiet ds d),
-            rw (h, one_more ds d)
-                (read_bytes a c l (ys ++ (x ∷ [])) n (suc y) w (omega arith) (λ u q. rw append_assoc (k u q))),
-          ))
+      (read_plays a c y l ys d (false ∷ rest) (
+        inl (rw h, eighth_quiet ds d),
+        rw (h, one_more ds d)
+            (read_bytes a c l (ys ++ (x ∷ [])) n (suc y) w (omega arith) (λ u q. rw append_assoc (k u q))),
+      ))
 
   -- after N for the call the ports wait for the start or stop that follows
   gets_none : (b : BodyModel) (e : Bank DeviceInLeg ds) →
@@ -316,6 +320,6 @@ module _ (ds : List Behaviour) (o : Option LegModel) (K : CursorModel → Bank P
           Goes (at_bit g 0 0 m) (bank_map (addressing_at 0 0) ds d) (cond t yes_so no_so).levels
       go true i k = address_plays g x m d (false ∷ rest.levels) says
           (heard_yes g 0 m r e (ready ds g.body e) rest.levels refl i (gets_ready ds g.body e)
-              (body_plays g.address g.body l ys e f.within k))
+          (body_plays g.address g.body l ys e f.within k))
       go false i k = address_plays g x m d (true ∷ []) says
           (heard_no g 0 l ys r e after_no refl i refl (rw append-nil at (k after_no (gets_none g.body e))))

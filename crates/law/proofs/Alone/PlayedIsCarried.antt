@@ -73,36 +73,36 @@ module _ (ds : List Behaviour) where
       (ts : List Letter) (e : CursorModel) (v : Bank PortModel ds) → IsLegalLeg g →
       let r = leg_result ds l g d in
       ((u : Bank PortModel ds) → Rests ds u r.devices →
-          Goes (closing r.kind o (notes l (ys ++ r.bytes) 0 r.kind)) u ts e v) →
+      Goes (closing r.kind o (notes l (ys ++ r.bytes) 0 r.kind)) u ts e v) →
       Goes (in_call g l o ys) (called d) (map bit_letter r.levels ++ ts) e v
   leg_goes g l o ys d ts e v h k =
       through transfers (ports_side ds) slots_left some_left fewer (leg_result ds l g d).levels
-          (in_call g l o ys) (called d) ts e v
-          (leg_plays ds o (λ c u. Goes c u ts e v) g l ys d h k)
+      (in_call g l o ys) (called d) ts e v
+      (leg_plays ds o (λ c u. Goes c u ts e v) g l ys d h k)
 
   second_leg : (g : LegModel) (ys : List ℕ) (d : Bank AddressedDevice ds) → IsLegalLeg g →
       let r = leg_result ds 1 g d in
       Goes (in_call g 1 None ys) (called d) (map bit_letter r.levels ++ (stop ∷ []))
-          (cursor_at at_end (notes 1 (ys ++ r.bytes) 0 r.kind)) (after_stop r.devices)
+      (cursor_at at_end (notes 1 (ys ++ r.bytes) 0 r.kind)) (after_stop r.devices)
   second_leg g ys d h =
       let r = leg_result ds 1 g d in
       let n = notes 1 (ys ++ r.bytes) 0 r.kind in
       leg_goes g 1 None ys d (stop ∷ []) (cursor_at at_end n) (after_stop r.devices) h
-          (λ u q. last_leg r.kind n r.devices u q)
+      (λ u q. last_leg r.kind n r.devices u q)
 
   -- a repeated start, a leg and the stop
   goes_again : (g : LegModel) (ys : List ℕ) (e : Bank DeviceInLeg ds) (u : Bank PortModel ds) →
       IsLegalLeg g → Rests ds u e →
       let r = leg_result ds 1 g (bank_map device_after_leg ds e) in
       Goes (cursor_at (at_restart g) (notes 0 ys 0 Done)) u (restart ∷ (map bit_letter r.levels ++ (stop ∷ [])))
-          (cursor_at at_end (notes 1 (ys ++ r.bytes) 0 r.kind)) (after_stop r.devices)
+      (cursor_at at_end (notes 1 (ys ++ r.bytes) 0 r.kind)) (after_stop r.devices)
   goes_again g ys e u h q =
       let d = bank_map device_after_leg ds e in
       let r = leg_result ds 1 g d in
       restarts transfers (ports_side ds) slots_left some_left fewer
-          (cursor_at (at_restart g) (notes 0 ys 0 Done)) u (map bit_letter r.levels ++ (stop ∷ []))
-          (cursor_at at_end (notes 1 (ys ++ r.bytes) 0 r.kind)) (after_stop r.devices)
-          refl q.quiet (rw q.start (second_leg g ys d h))
+      (cursor_at (at_restart g) (notes 0 ys 0 Done)) u (map bit_letter r.levels ++ (stop ∷ []))
+      (cursor_at at_end (notes 1 (ys ++ r.bytes) 0 r.kind)) (after_stop r.devices)
+      refl q.quiet (rw q.start (second_leg g ys d h))
 
   -- a transfer played alone comes to this result
   record Plays (t : TransferModel) (d : Bank AddressedDevice ds) (r : TransferResult ds) : Type 0 where
@@ -124,7 +124,7 @@ module _ (ds : List Behaviour) where
         says = outcome_is r.kind r.bytes;
         comes = leg_goes t.first 0 t.second [] d (stop ∷ []) ended (after_stop r.devices) h
             (λ u q. subst (λ e. Goes e u (stop ∷ []) ended (after_stop r.devices)) (sym closes)
-                (stops_at n r.devices u q));
+            (stops_at n r.devices u q));
       }
 
   plays : (g : LegModel) (o : Option LegModel) (d : Bank AddressedDevice ds) → IsLegalLeg g → IsLegalSecond o →
@@ -143,7 +143,7 @@ module _ (ds : List Behaviour) where
         says = outcome_is w.kind (r.bytes ++ w.bytes);
         comes = leg_goes g 0 (Some f) [] d ts ended (after_stop w.devices) h
             (λ u q. subst (λ z. Goes (closing z (Some f) (notes 0 r.bytes 0 z)) u ts ended (after_stop w.devices))
-                (sym i) (goes_again f r.bytes r.devices u j q));
+            (sym i) (goes_again f r.bytes r.devices u j q));
       }
 
   pub carried_alone : (t : TransferModel) (d : Bank AddressedDevice ds) (n : ℕ) → IsLegal t →

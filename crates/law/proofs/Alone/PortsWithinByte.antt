@@ -132,7 +132,7 @@ reading_pulls (b ∷ ds) d k e =
     let x = byte_given_by b d.0 in
     let y = joint_byte (bank_list byte_given_by ds d.1) in
     rw (show_one b d.0 k e, reading_pulls ds d.1 k e, digit_and x y (7 - k))
-        (not_and (bit_at x (7 - k)) (bit_at y (7 - k)))
+    (not_and (bit_at x (7 - k)) (bit_at y (7 - k)))
 
 -- what a bit makes of all ports at each place, and whether they pull SDA there
 module _ (ds : List Behaviour) where
@@ -149,7 +149,7 @@ module _ (ds : List Behaviour) where
       D.bit (bank_map (addressing_at k v) ds d) x ≡ bank_map (addressing_at (suc k) (shift_in v x)) ds d
   address_more d k v x e =
       each_each (addressing_at k v) (counting x) (addressing_at (suc k) (shift_in v x))
-          (λ b p. address_one b p k v x e) ds d
+      (λ b p. address_one b p k v x e) ds d
 
   -- the last bit of the address byte asks the devices that it calls
   pub address_full : (d : Bank AddressedDevice ds) (v : ℕ) (x : Bool) →
@@ -160,7 +160,7 @@ module _ (ds : List Behaviour) where
       let w = shift_in v x in
       let r = direction_of (eqb (w % 2) 1) in
       each_pair (addressing_at 7 v) (counting x) (λ b. device_after_call b (w / 2) r) (acknowledging_at r)
-          (λ b p. called_one b p v (w / 2) r (answers_to p.address (w / 2)) refl) ds d
+      (λ b p. called_one b p v (w / 2) r (answers_to p.address (w / 2)) refl) ds d
 
   pub write_more : (d : Bank DeviceInLeg ds) (k v : ℕ) (x : Bool) → ltb k 7 ≡ true →
       D.bit (bank_map (writing_at k v) ds d) x ≡ bank_map (writing_at (suc k) (shift_in v x)) ds d
@@ -172,7 +172,7 @@ module _ (ds : List Behaviour) where
       D.bit (bank_map (writing_at 7 v) ds d) x ≡ bank_map (acknowledging_at Write) ds (put_to_all (shift_in v x) d)
   write_full d v x =
       each_pair (writing_at 7 v) (counting x) (λ b. device_put b (shift_in v x)) (acknowledging_at Write)
-          (λ b p. put_one b p v x) ds d
+      (λ b p. put_one b p v x) ds d
 
   pub read_more : (d : Bank DeviceInLeg ds) (k : ℕ) (x : Bool) → ltb k 8 ≡ true →
       D.bit (bank_map (reading_at k) ds d) x ≡ bank_map (reading_at (suc k)) ds d

@@ -60,7 +60,7 @@ module _ (W : Script) (D : Side) where
     pub byte : (bs : List Bool) → x < 256 → Carries (c 8 x) (t x) bs K → Carries (c 0 0) (s 0 0) (low_bits 8 x bs) K
     byte bs h r =
         let first : shift_in 0 (bit_at x 7) ≡ x / 128 =
-            ap (λ n. shift_in n (bit_at x 7)) (sym (div-eq_of_lt h)) ∙ shifted_digit x 7 h in
+        ap (λ n. shift_in n (bit_at x 7)) (sym (div-eq_of_lt h)) ∙ shifted_digit x 7 h in
         let whole : shift_in (x / 2) (bit_at x 0) ≡ x = shifted_digit x 0 h ∙ div-one x in
         next_bit 0 0 (x / 128) (low_bits 7 x bs) refl refl first
         (next_bit 1 (x / 128) (x / 64) (low_bits 6 x bs) refl refl (shifted_digit x 6 h)

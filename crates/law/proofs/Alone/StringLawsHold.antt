@@ -1,4 +1,4 @@
--- The laws of strings hold: one stop, at the end; most_letters letters or fewer; none begins another; it says the outcome.
+-- The laws of strings hold: one stop, at the end; at most most_letters; none begins another; a string says the outcome.
 use Rattle.std.proofs.Common.{◌≡◌, ℕ, suc, ◌≤◌, Bool, cond, ltb, ◌⊎◌, List, [], ◌∷◌, ◌++◌, map, length, Some}
 use Rattle.std.proofs.Common.{None, Option, sym, refl, ap, ◌∙◌, inl, inr, append_assoc, le_refl, arith}
 use Rattle.std.specs.Prelude.{slice_index_or}
@@ -103,9 +103,9 @@ bits_decide : (ts us : List Letter) (p : IsParting ts us) → SameConditions ts 
 bits_decide ts us p h =
     let k = length p.front in
     let one_at : slice_index_or ts k stop ≡ p.one_letter =
-        ap (λ r. slice_index_or r k stop) p.one_is ∙ get_or-append_seam p.front p.one_letter p.one_rest stop in
+    ap (λ r. slice_index_or r k stop) p.one_is ∙ get_or-append_seam p.front p.one_letter p.one_rest stop in
     let other_at : slice_index_or us k stop ≡ p.other_letter =
-        ap (λ r. slice_index_or r k stop) p.other_is ∙ get_or-append_seam p.front p.other_letter p.other_rest stop in
+    ap (λ r. slice_index_or r k stop) p.other_is ∙ get_or-append_seam p.front p.other_letter p.other_rest stop in
     bits_or_same p.one_letter p.other_letter p.differ (sym (ap condition one_at) ∙ h k ∙ ap condition other_at)
 
 -- the first letter that differs says which string is the first
@@ -171,11 +171,11 @@ module _ (ds es : List Behaviour) where
       let n = slots_left (new_cursor t) in
       let m = slots_left (new_cursor u) in
       let twins : Twins (new_cursor t) (new_cursor u) =
-          record { one_way = open_alike t u h k; back = open_alike u t k h; notes_same = refl } in
+      record { one_way = open_alike t u h k; back = open_alike u t k h; notes_same = refl } in
       let same_notes =
-          same_end (ports_side ds) (ports_side es) n m (new_cursor t) (new_cursor u)
-              (opened_ports ds d) (opened_ports es e) twins
-              (le_refl n) (le_refl m) (a.same_letters ∙ q ∙ sym b.same_letters) in
+      same_end (ports_side ds) (ports_side es) n m (new_cursor t) (new_cursor u)
+      (opened_ports ds d) (opened_ports es e) twins
+      (le_refl n) (le_refl m) (a.same_letters ∙ q ∙ sym b.same_letters) in
       sym a.same_outcome ∙ ap (λ n. outcome_of (cursor_at at_end n)) same_notes ∙ b.same_outcome
 
 pub string_laws : (ds es : List Behaviour) → StringLaws ds es

@@ -80,8 +80,8 @@ module _ (D E : Side) where
 
       go : (i j : Bool) → ends x ≡ i → ends y ≡ j →
           ◌≡◌ {A = List Letter}
-              (letter D x s ∷ cond i [] (string transfers D n c' s'))
-              (letter E y t ∷ cond j [] (string transfers E k e' t')) →
+          (letter D x s ∷ cond i [] (string transfers D n c' s'))
+          (letter E y t ∷ cond j [] (string transfers E k e' t')) →
           SameEnd n k c' e' s' t' →
           (cond i c (final transfers D n c' s')).notes ≡ (cond j e (final transfers E k e' t')).notes
       go true true p w v ih = h.notes_same
@@ -92,4 +92,4 @@ module _ (D E : Side) where
           let heard_same : heard D x s ≡ heard E y t = heard_is D x s ∙ ap level_by same ∙ sym (heard_is E y t) in
           let twins = still_twins c e (heard D x s) h (twins_show c e s t h same) in
           ih (subst (λ f. Twins c' (cursor_next e f)) heard_same twins)
-              (omega (arith, fewer c (heard D x s) p)) (omega (arith, fewer e (heard E y t) w)) (cc)
+          (omega (arith, fewer c (heard D x s) p)) (omega (arith, fewer e (heard E y t) w)) (cc)
