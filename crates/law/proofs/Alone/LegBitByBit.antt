@@ -54,12 +54,16 @@ not_not false = refl
 below : (k : ℕ) → ltb k 7 ≡ true → ltb k 8 ≡ true
 below k e = grind (arith, nat_tests)
 
+-- the direction that the last bit of a calling byte says
+abbrev direction_in : ℕ → Direction
+direction_in x = direction_of (eqb (x % 2) 1)
+
 -- the byte that calls for a leg says its address and its direction
 pub record Calls (g : LegModel) (x : ℕ) : Type 0 where
   pub sent_is : byte_of_leg g 0 ≡ x
   pub small : x < 256
   pub address_is : x / 2 ≡ g.address
-  pub direction_is : direction_of (eqb (x % 2) 1) ≡ body_direction g.body
+  pub direction_is : direction_in x ≡ body_direction g.body
 
 even_write : (a : ℕ) → eqb (a * 2 % 2) 1 ≡ false
 even_write a = grind (arith, nat_tests)
@@ -125,8 +129,7 @@ module _ (ds : List Behaviour) (o : Option LegModel) (K : CursorModel → Bank P
       Goes (at_bit g 0 0 m) (bank_map (addressing_at 0 0) ds d) (low_bits 8 x bs)
   address_plays g x m d bs h r =
       byte transfers (ports_side ds) K x (λ k v. at_bit g 0 k m) (λ k v. bank_map (addressing_at k v) ds d)
-      (λ v. bank_map (acknowledging_at (direction_of (eqb (v % 2) 1))) ds
-      (called_for ds (v / 2) (direction_of (eqb (v % 2) 1)) d))
+      (λ v. bank_map (acknowledging_at (direction_in v)) ds (called_for ds (v / 2) (direction_in v) d))
       (λ k v e. inl (
         own_shown g 0 k refl e ∙ ap (λ z. bit_symbol (bit_at z (7 - k))) h.sent_is,
         address_quiet ds d k v,
