@@ -8,7 +8,6 @@ pub mod SlotsRunOut
 pub mod SlotsOfLevels
 pub mod PortsWithinByte
 pub mod LegBitByBit
-pub mod Statements
 pub mod PlayedIsCarried
 pub mod IdleBetweenTurns
 pub mod CursorsStayAlike

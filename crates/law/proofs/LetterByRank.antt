@@ -1,5 +1,6 @@
 -- Letters are told apart by their rank, and strings by their letters.
-use Rattle.std.proofs.Common.{◌≡◌, ℕ, Bool, true, false, cond, ◌&&◌, ◌⊎◌, List, [], ◌∷◌, refl, ap, ap₂, ◌∙◌, arith}
+use Rattle.std.proofs.Common.{◌≡◌, true, ◌⊎◌, List, refl, ap, arith}
+use lib.Pointwise.{pointwise_decides}
 use Rattle.std.proofs.lemmas.Bool.{eqb-true, eq-eqb}
 use Rattle.law.specs.Letter.{Letter, rank, same_letter, same_string}
 
@@ -12,15 +13,12 @@ cases_letter t u = grind arith
 pub same_is : (t u : Letter) → same_letter t u ≡ true → t ≡ u
 same_is t u h = same_rank t u (eqb-true (rank t) (rank u) h)
 
+letters_decide : (t u : Letter) → (same_letter t u ≡ true → t ≡ u) × (t ≡ u → same_letter t u ≡ true)
+letters_decide t u = (same_is t u, λ e. eq-eqb (rank t) (rank u) (ap rank e))
+
+-- strings that compare the same are the same
 pub same_of : (ts us : List Letter) → same_string ts us ≡ true → ts ≡ us
-same_of [] [] h = refl
-same_of [] (u ∷ us) h = cc
-same_of (t ∷ ts) [] h = cc
-same_of (t ∷ ts) (u ∷ us) h = go (same_letter t u) refl h (same_of ts us) where
-  go : (v : Bool) → same_letter t u ≡ v → (v && same_string ts us) ≡ true → (same_string ts us ≡ true → ts ≡ us) → t ∷ ts ≡ u ∷ us
-  go true e k rest = ap₂ ◌∷◌ (same_is t u e) (rest k)
-  go false e k rest = cc
+same_of ts us h = (pointwise_decides letters_decide ts us).0 h
 
 pub same_refl : (ts : List Letter) → same_string ts ts ≡ true
-same_refl [] = refl
-same_refl (t ∷ ts) = rw (eq-eqb (rank t) (rank t) refl) (same_refl ts)
+same_refl ts = (pointwise_decides letters_decide ts ts).1 refl

@@ -1,21 +1,23 @@
--- How many slots a cursor has left at the most: at least one, fewer after each, and no more at an opening than a string has letters.
+-- A cursor runs out of slots: it always has one left, fewer after each, and at an opening no more than most_letters.
 use Rattle.std.proofs.Common.{◌≡◌, ℕ, suc, ◌+◌, ◌-◌, ◌*◌, ◌<◌, ◌≤◌, Bool, false, Some, None, Option, arith}
 use Rattle.transfer.specs.Transfer.{TransferModel}
-use Rattle.transfer.specs.Leg.{BodyModel, LegModel, body_size}
-use Rattle.master.specs.Cursor.{Play, at_end, at_restart, in_leg, CursorModel, leg_size, symbol_of, cursor_next, new_cursor}
+use Rattle.transfer.specs.Leg.{LegModel}
+use Rattle.master.specs.Cursor.{Play, at_end, at_restart, in_leg, CursorModel}
+use Rattle.master.specs.Cursor.{leg_size, symbol_of, cursor_next, new_cursor}
 use Rattle.law.proofs.FarSide.{ends}
-use Rattle.law.specs.Legal.{IsLegalBody, IsLegal}
+use Rattle.law.specs.Legal.{IsLegal}
 use Rattle.law.specs.Limits.{bits_of_byte, letters_of_byte, most_letters}
-use Rattle.transfer.specs.Limits.{most_bytes}
 
 -- a repeated start, a leg and the stop
 abbrev pub slots_again : LegModel → ℕ
 slots_again g = 1 + letters_of_byte * suc (leg_size g) + 1
 
+-- after a leg: what is to come, or the stop
 abbrev pub slots_after : Option LegModel → ℕ
 slots_after None = 1
 slots_after (Some g) = slots_again g
 
+-- the slots left at a place, at the most
 abbrev pub play_slots : Play → ℕ
 play_slots at_end = 1
 play_slots (at_restart g) = slots_again g
@@ -30,11 +32,9 @@ play_some p = grind arith
 pub some_left : (c : CursorModel) → 1 ≤ slots_left c
 some_left c = play_some c.play
 
-pub fewer : (c : CursorModel) (heard : Bool) → ends (symbol_of c.play) ≡ false → slots_left (cursor_next c heard) < slots_left c
+pub fewer : (c : CursorModel) (heard : Bool) → ends (symbol_of c.play) ≡ false →
+    slots_left (cursor_next c heard) < slots_left c
 fewer c heard h = grind arith
-
-small : (b : BodyModel) → IsLegalBody b → body_size b ≤ most_bytes
-small b h = grind arith
 
 pub at_most : (t : TransferModel) → IsLegal t → slots_left (new_cursor t) ≤ most_letters
 at_most t h = grind arith

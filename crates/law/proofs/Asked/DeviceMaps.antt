@@ -20,10 +20,10 @@ use Rattle.law.specs.Legal.{IsLegal}
 use Rattle.law.specs.Letter.{zero as low, one}
 use Rattle.law.proofs.FarSide.{Side, ends, letter, heard, after, string, last, final}
 use Rattle.law.proofs.Alone.StepsOfBanks.{any}
-use Rattle.law.proofs.Alone.PlayedIsCarried.{carried_alone}
-use Rattle.law.proofs.Alone.PortsAsSide.{counting, pulling, ports_side, idle_ports, placed}
+use Rattle.law.proofs.Alone.PlayedIsCarried.{opened_ports, carried_alone}
+use Rattle.law.specs.Use.{addressed_device}
+use Rattle.law.proofs.Alone.PortsAsSide.{counting, pulling, ports_side, idle_ports}
 use Rattle.law.proofs.Alone.SlotsRunOut.{slots_left}
-use Rattle.law.proofs.Alone.Statements.{opened_ports}
 
 -- a map of the meanings of one behaviour to those of another that commutes with all four steps
 pub record Morphism (b c : Behaviour) : Type 0 where
@@ -172,12 +172,12 @@ module _ (W : Script) (D E : Side) (h : SideMorphism D E) where
       ∙ ap (λ f. cond (ends x) c f) (final_to n q (after D x s))
 
 -- idle ports by their devices
-pub devices_of_idle : (ds : List Behaviour) (d : Bank AddressedDevice ds) → bank_map placed ds (idle_ports ds d) ≡ d
+pub devices_of_idle : (ds : List Behaviour) (d : Bank AddressedDevice ds) → bank_map addressed_device ds (idle_ports ds d) ≡ d
 devices_of_idle [] d = refl
 devices_of_idle (b ∷ ds) d = ap (λ r. (d.0, r)) (devices_of_idle ds d.1)
 
 pub idle_same : (ds : List Behaviour) (d e : Bank AddressedDevice ds) → idle_ports ds d ≡ idle_ports ds e → d ≡ e
-idle_same ds d e q = sym (devices_of_idle ds d) ∙ (ap (bank_map placed ds) q ∙ devices_of_idle ds e)
+idle_same ds d e q = sym (devices_of_idle ds d) ∙ (ap (bank_map addressed_device ds) q ∙ devices_of_idle ds e)
 
 pub idle_to : (bs cs : List Behaviour) (h : Morphisms bs cs) (d : Bank AddressedDevice bs) → idle_ports cs (devices_to bs cs h d) ≡ ports_to bs cs h (idle_ports bs d)
 idle_to [] [] h d = refl

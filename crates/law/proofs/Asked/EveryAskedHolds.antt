@@ -25,16 +25,16 @@ use Rattle.law.specs.Legal.{IsLegal}
 use Rattle.law.specs.Letter.{Letter, zero as low, one}
 use Rattle.law.specs.Monitor.{new_monitor, monitor_after_event, marked_after}
 use Rattle.master.specs.Mark.{is_lost}
-use Rattle.law.specs.Use.{ticks, Use, lists_appended, event_at, marks_of, monitor_after, steps_then, use_after_tick, use_after, new_use}
+use Rattle.law.specs.Use.{ticks, Use, lists_appended, event_at, marks_of, monitor_after, steps_then, use_after_tick, use_after, new_use, addressed_device}
 use Rattle.law.specs.Law.{Law}
 use Rattle.law.proofs.FarSide.{string, last}
 use Rattle.law.proofs.Alone.CursorsStayAlike.{Alike}
 use Rattle.law.proofs.Asked.ReportedHandedOver.{joined_alone, joined_as, reported_alone}
 use Rattle.law.proofs.Alone.IdleBetweenTurns.{Idle}
-use Rattle.law.proofs.Alone.PortsAsSide.{unheld, ports_side, placed}
+use Rattle.law.proofs.Alone.PortsAsSide.{unheld, ports_side}
 use Rattle.law.proofs.Asked.RecordAfterA.{noted_by, played_reached}
 use Rattle.law.proofs.Alone.SlotsRunOut.{slots_left}
-use Rattle.law.proofs.Alone.Statements.{opened_ports}
+use Rattle.law.proofs.Alone.PlayedIsCarried.{opened_ports}
 use Rattle.law.proofs.Asked.UnmarkedAsAlone.{ForNow, StillIn as LawStillIn, carried_so_far}
 use Rattle.law.proofs.Asked.NotingBusAlongside.{ports_stay, Alongside, same_event, same_marks, same_told, asked_many, asked_noted, one_more, first_noting, Beside, beside}
 use Rattle.law.proofs.Bus.EveryUseLawful.{StandsAt, every_use_lawful, every_use_stands}
@@ -125,7 +125,7 @@ module _ (hs : List HostBehaviour) (ds : List Behaviour) where
         let stops = (tells_at_stop hs es y.book i t mine o e tells).0 in
         let m = after_these ds y.book.devices in
         let r = (transfer_result es t (all_nothing_noted ds d)).devices in
-        let after : bank_map placed es then.bus.ports ≡ devices_to es es m r = ny.point.devices (ap (busy_after y.bus.wire.busy) stops)
+        let after : bank_map addressed_device es then.bus.ports ≡ devices_to es es m r = ny.point.devices (ap (busy_after y.bus.wire.busy) stops)
         ∙ (devices_won hs es y.book i t mine o e tells ∙ (ap (λ z. (transfer_result es t z).devices) (sym again) ∙ carried_devices es es m t (all_nothing_noted ds d) (legal i t c))) in
         sym (cancelled (steps_alone ds t d) (length_noted ds r)
         (sym (noted_after ds y.book.devices r) ∙ (ap (all_steps ds) (sym after) ∙ (noted_placed ds then.bus.ports ∙ noted_then))))

@@ -16,8 +16,8 @@ use Rattle.law.specs.AskedLaw.{StepsNoted, with_step, noting_steps, all_noting_s
 use Rattle.law.specs.Bank.{Bank, bank_map, bank_list}
 use Rattle.law.specs.Bus.{HoldAnswers, ports_step}
 use Rattle.law.specs.TransferResult.{AddressedDevice}
-use Rattle.law.specs.Use.{lists_appended}
-use Rattle.law.proofs.Alone.PortsAsSide.{unheld, idle_ports, placed}
+use Rattle.law.specs.Use.{lists_appended, addressed_device}
+use Rattle.law.proofs.Alone.PortsAsSide.{unheld, idle_ports}
 use Rattle.law.proofs.Asked.RecordAfterA.{noted_by}
 use Rattle.law.proofs.Asked.DeviceMaps.{Morphism, Morphisms, port_to, sees_to, devices_to, ports_to}
 
@@ -111,11 +111,11 @@ pub noted_idle : (ds : List Behaviour) (d : Bank AddressedDevice (all_noting_ste
 noted_idle [] d = refl
 noted_idle (b ∷ ds) d = ap (λ l. d.0.meaning.steps ∷ l) (noted_idle ds d.1)
 
-pub noted_placed : (ds : List Behaviour) (p : Bank PortModel (all_noting_steps ds)) → all_steps ds (bank_map placed (all_noting_steps ds) p) ≡ noted_by ds p
+pub noted_placed : (ds : List Behaviour) (p : Bank PortModel (all_noting_steps ds)) → all_steps ds (bank_map addressed_device (all_noting_steps ds) p) ≡ noted_by ds p
 noted_placed [] p = refl
 noted_placed (b ∷ ds) p = ap (λ l. p.0.meaning.steps ∷ l) (noted_placed ds p.1)
 
-pub bare_placed : (ds : List Behaviour) (p : Bank PortModel (all_noting_steps ds)) → bare_devices ds (bank_map placed (all_noting_steps ds) p) ≡ bank_map placed ds (bare_ports ds p)
+pub bare_placed : (ds : List Behaviour) (p : Bank PortModel (all_noting_steps ds)) → bare_devices ds (bank_map addressed_device (all_noting_steps ds) p) ≡ bank_map addressed_device ds (bare_ports ds p)
 bare_placed [] p = refl
 bare_placed (b ∷ ds) p = ap (λ r. (record { address = p.0.address; meaning = p.0.meaning.meaning }, r)) (bare_placed ds p.1)
 

@@ -26,7 +26,7 @@ use Rattle.law.proofs.Alone.CursorsStayAlike.{Alike}
 use Rattle.law.proofs.Alone.IdleBetweenTurns.{Idle}
 use Rattle.law.specs.Legal.{IsLegal}
 use Rattle.law.specs.Limits.{most_ticks}
-use Rattle.law.proofs.Alone.PortsAsSide.{unheld, ports_side, idle_ports, placed}
+use Rattle.law.proofs.Alone.PortsAsSide.{unheld, ports_side, idle_ports}
 use Rattle.law.proofs.Asked.RecordAfterA.{noted_by}
 use Rattle.law.proofs.Alone.SlotsRunOut.{slots_left}
 use Rattle.law.proofs.Machine.BusAsMachine.{Bus}
@@ -188,7 +188,7 @@ pub ports_stay : (ds : List Behaviour) (p : Bank PortModel ds) (s : Signal) (a :
 ports_stay [] p s a = refl
 ports_stay (b ∷ ds) p s a = λ i. port_stays b p.0 s.event s.bit a.0.0 i ∷ ports_stay ds p.1 s a.1 i
 
-pub places_of : (ds : List Behaviour) (p : Bank PortModel ds) → device_places ds (bank_map placed ds p) ≡ port_places ds p
+pub places_of : (ds : List Behaviour) (p : Bank PortModel ds) → device_places ds (bank_map addressed_device ds p) ≡ port_places ds p
 places_of [] p = refl
 places_of (b ∷ ds) p = ap (λ l. p.0.address ∷ l) (places_of ds p.1)
 
@@ -317,7 +317,7 @@ module _ (hs : List HostBehaviour) (ds : List Behaviour) where
 
     devices : bare_devices ds then.book.devices ≡ now.book.devices
     devices = elim (is_stop e) [
-      | inl k ↦ ap (bare_devices ds) (sym (ny.point.devices (free y.bus k))) ∙ (bare_placed ds then.bus.ports ∙ (ap (λ u. bank_map placed ds u.ports) bus ∙ nx.point.devices (free x.bus (sym g ∙ k))))
+      | inl k ↦ ap (bare_devices ds) (sym (ny.point.devices (free y.bus k))) ∙ (bare_placed ds then.bus.ports ∙ (ap (λ u. bank_map addressed_device ds u.ports) bus ∙ nx.point.devices (free x.bus (sym g ∙ k))))
       | inr k ↦ ap (bare_devices ds) (devices_stay hs es y.book e k) ∙ (s.devices ∙ sym (devices_stay hs ds x.book f (λ j. k (g ∙ j))))
     ]
 

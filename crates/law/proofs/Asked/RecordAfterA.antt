@@ -22,7 +22,7 @@ use Rattle.law.proofs.FarSide.{string, last}
 use Rattle.law.proofs.Asked.SomebodyInAfterA.{in_leg_after, HasAnswered, low_carried, answered}
 use Rattle.law.proofs.Alone.PortsWithinByte.{writing_at, reading_at, device_in_leg, called_for, put_to_all, ready}
 use Rattle.law.proofs.Alone.PortsAsSide.{ports_side}
-use Rattle.law.proofs.Alone.Statements.{opened_ports}
+use Rattle.law.proofs.Alone.PlayedIsCarried.{opened_ports}
 
 -- the steps noted so far by the device of each port
 abbrev pub noted_by : (ds : List Behaviour) → Bank PortModel (all_noting_steps ds) → List (List Step)

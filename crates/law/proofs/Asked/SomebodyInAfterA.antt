@@ -19,13 +19,12 @@ use Rattle.law.specs.Legal.{IsLegalBody, IsLegalLeg, IsLegalSecond, IsLegal}
 use Rattle.law.specs.Letter.{Letter, zero as low, stop, restart, one, bit_letter}
 use Rattle.law.proofs.FarSide.{Side, ends as ends_with, heard, after, string, last}
 use Rattle.law.proofs.Alone.ByteLawsHold.{took, ninth, later, nine}
-use Rattle.law.proofs.Alone.PlayedIsCarried.{carried_alone}
+use Rattle.law.proofs.Alone.PlayedIsCarried.{opened_ports, carried_alone}
 use Rattle.law.proofs.Alone.LegBitByBit.{calls, notes, closing, address_plays, written_plays, leg_plays}
 use Rattle.law.proofs.Alone.PortsWithinByte.{addressing_at, writing_at, acknowledging_at, called_for, put_to_all, write_on, ready, gets_ready, opened_is}
 use Rattle.law.proofs.Alone.PortsAsSide.{ports_side}
 use Rattle.law.proofs.Alone.SlotsOfLevels.{Carries, low_bits, level_slot, Slot}
 use Rattle.law.proofs.Alone.SlotsRunOut.{slots_left}
-use Rattle.law.proofs.Alone.Statements.{opened_ports}
 
 -- the slots of given levels
 module _ (W : Script) (D : Side) where

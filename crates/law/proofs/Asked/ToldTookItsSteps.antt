@@ -18,10 +18,9 @@ use Rattle.law.specs.TransferResult.{AddressedDevice, TransferResult, transfer_r
 use Rattle.law.specs.Legal.{IsLegal}
 use Rattle.law.specs.Letter.{Letter, zero as low, stop, restart, one, same_string}
 use Rattle.law.proofs.FarSide.{Side, ends, letter, heard, after, string, last}
-use Rattle.law.proofs.Alone.PlayedIsCarried.{carried_alone}
+use Rattle.law.proofs.Alone.PlayedIsCarried.{opened_ports, carried_alone}
 use Rattle.law.proofs.Alone.PortsAsSide.{ports_side}
 use Rattle.law.proofs.Alone.SlotsRunOut.{slots_left}
-use Rattle.law.proofs.Alone.Statements.{opened_ports}
 use Rattle.law.proofs.LetterByRank.{same_of}
 use Rattle.law.proofs.Machine.Arbitration.{at}
 use Rattle.law.proofs.Bus.BookAsMachine.{contenders, contenders_legal, contests_of}

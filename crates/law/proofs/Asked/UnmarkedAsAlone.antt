@@ -5,9 +5,9 @@ use Rattle.std.proofs.lemmas.Bool.{cases_Bool, eqb-true}
 use Rattle.master.specs.declared.symbol.Symbol.{Symbol}
 use Rattle.master.specs.Script.{Script}
 use Rattle.law.specs.Monitor.{Monitor}
-use Rattle.law.proofs.FarSide.{Side, ends, letter, heard, after, string, last}
+use Rattle.law.proofs.FarSide.{Side, ends, letter, heard, after, string, last, taken}
 use Rattle.law.specs.Letter.{Letter}
-use Rattle.law.proofs.Machine.BusAsMachine.{taken, Bus}
+use Rattle.law.proofs.Machine.BusAsMachine.{Bus}
 use Rattle.law.proofs.Machine.PhasesOfSlot.{rank, early_lost, Cell, out, live, advance, cursors, alive}
 use Rattle.law.proofs.Machine.Arbitration.{at, lead, keep, slot, slots, opened}
 use Rattle.law.proofs.Machine.BookOfMachine.{Tasks, begins, watch}

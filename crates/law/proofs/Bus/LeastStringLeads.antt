@@ -1,20 +1,18 @@
 -- Who leads by the letters of carried alone is who leads slot by slot.
-use Rattle.std.proofs.Common.{◌≡◌, ℕ, Bool, cond, eqb, List, [], ◌∷◌, map, Some, None, Option, sym, refl, ap, ◌∙◌, subst, ap₂, le_refl, arith}
+use Rattle.std.proofs.Common.{◌≡◌, Bool, cond, List, [], ◌∷◌, map, Some, None, Option, sym, refl, ap, ◌∙◌, subst, ap₂, arith}
 use Rattle.std.specs.Option.{option_map}
 use Rattle.transfer.specs.Transfer.{TransferModel}
 use Rattle.device.specs.Device.{Behaviour}
 use Rattle.law.specs.Bank.{Bank}
 use Rattle.law.specs.Book.{first_of_two, least_result, outcome_if_least, outcomes_of_turn, devices_after}
 use Rattle.law.specs.TransferResult.{AddressedDevice, TransferResult, transfer_result}
-use Rattle.master.specs.Cursor.{new_cursor}
 use Rattle.port.specs.Port.{PortModel}
 use Rattle.master.specs.Script.{transfers}
 use Rattle.law.specs.Letter.{Letter, same_string, first_or_same}
-use Rattle.law.proofs.Alone.PlayedIsCarried.{carried_alone}
+use Rattle.law.proofs.Alone.PlayedIsCarried.{opened_ports, agrees}
 use Rattle.law.specs.Legal.{IsLegal}
 use Rattle.law.proofs.Alone.PortsAsSide.{ports_side, idle_ports}
 use Rattle.law.proofs.Alone.SlotsRunOut.{slots_left}
-use Rattle.law.proofs.Alone.Statements.{Agrees, opened_ports}
 use Rattle.law.proofs.Machine.BookOfMachine.{task_string, task_outcome, task_side, pick, leader, wins, outcomes, leader_side}
 
 abbrev pub LegalIf : Option TransferModel → Type 0
@@ -35,14 +33,11 @@ module _ (ds : List Behaviour) (d : Bank AddressedDevice ds) where
   abbrev pub carry_all : List (Option TransferModel) → List (Option (TransferResult ds))
   carry_all l = map (option_map carry) l
 
-  pub agrees : (t : TransferModel) → IsLegal t → Agrees ds t d (slots_left (new_cursor t))
-  agrees t k = carried_alone ds t d (slots_left (new_cursor t)) k (le_refl (slots_left (new_cursor t)))
-
   abbrev pub text : TransferModel → List Letter
   text t = task_string transfers (ports_side ds) slots_left t side
 
   pub text_is : (t : TransferModel) → IsLegal t → text t ≡ (carry t).letters
-  text_is t k = (agrees t k).same_letters
+  text_is t k = (agrees ds t d k).same_letters
 
   pub lexb_is : (t u : TransferModel) → IsLegal t → IsLegal u → first_or_same (text t) (text u) ≡ first_or_same (carry t).letters (carry u).letters
   lexb_is t u k l = ap₂ first_or_same (text_is t k) (text_is u l)
@@ -71,7 +66,7 @@ module _ (ds : List Behaviour) (d : Bank AddressedDevice ds) where
 
   told_one : (t u : TransferModel) → IsLegal t → IsLegal u →
       cond (wins transfers (ports_side ds) slots_left t (Some u) side) (Some (task_outcome transfers (ports_side ds) slots_left t side)) None ≡ outcome_if_least ds (carry u) (Some (carry t))
-  told_one t u k l = ap₂ (λ v o. cond v (Some o) None) (same_is t u k l) (agrees t k).same_outcome
+  told_one t u k l = ap₂ (λ v o. cond v (Some o) None) (same_is t u k l) (agrees ds t d k).same_outcome
 
   pub outcomes_are : (l : List (Option TransferModel)) (q : Option TransferModel) → AllLegal l → LegalIf q →
       outcomes transfers (ports_side ds) slots_left l q side ≡ outcomes_of_turn ds (option_map carry q) (carry_all l)
@@ -88,7 +83,7 @@ module _ (ds : List Behaviour) (d : Bank AddressedDevice ds) where
 
   -- the devices after it; without a contender nothing is carried
   after_one : (q : TransferModel) → IsLegal q → idle_ports ds (carry q).devices ≡ task_side transfers (ports_side ds) slots_left q side
-  after_one q k = sym (agrees q k).same_devices
+  after_one q k = sym (agrees ds q d k).same_devices
 
   pub devices_are : (l : List (Option TransferModel)) (q : TransferModel) → AllLegal l → lead l ≡ Some q →
       idle_ports ds (devices_after ds (least_result ds (carry_all l)) d) ≡ leader_side transfers (ports_side ds) slots_left (lead l) side

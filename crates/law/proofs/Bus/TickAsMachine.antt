@@ -3,7 +3,6 @@ use Rattle.std.proofs.Common.{◌≡◌, ℕ, ◌≤◌, Bool, true, not, ◌||�
 use Rattle.std.proofs.lemmas.Bool.Decides.{nat_tests}
 use Rattle.device.specs.Device.{Behaviour}
 use Rattle.host.specs.Host.{HostBehaviour}
-use Rattle.wire.specs.declared.event.Event.{Event}
 use Rattle.wire.specs.declared.event.Event.TheVariants.{Fall}
 use Rattle.wire.specs.declared.levels.Levels.{Levels}
 use Rattle.wire.specs.declared.wire.Signal.{Signal}
@@ -11,14 +10,14 @@ use Rattle.law.specs.Bank.{Bank, bank_map, bank_list}
 use Rattle.law.specs.Bus.{all_pulls, HoldAnswers, ports_step, BusModel, levels_at, tick_at}
 use Rattle.transfer.specs.Limits.{most_count}
 use Rattle.master.specs.Master.{HostedMaster, hosted_step, hosted_pulls}
-use Rattle.master.specs.MasterState.{MasterModel, master_step}
-use Rattle.port.specs.Port.{PortModel, port_pulls}
+use Rattle.master.specs.MasterState.{MasterModel}
+use Rattle.port.specs.Port.{port_pulls}
 use Rattle.master.specs.Script.{transfers}
 use Rattle.wire.specs.Pulls.{pulls_or, levels_of}
 use Rattle.wire.specs.Event.{line_event, event_between}
 use Rattle.wire.specs.Wire.{signal, wire_after}
-use Rattle.law.proofs.Alone.PortsAsSide.{unheld, ports_side, side_sees, side_follows, side_pulls}
-use Rattle.law.proofs.Machine.BusAsMachine.{Bus, masters_pull, masters_step, hold_after, side_after, levels, after, tick}
+use Rattle.law.proofs.Alone.PortsAsSide.{unheld, ports_side, side_follows, side_pulls}
+use Rattle.law.proofs.Machine.BusAsMachine.{Bus, masters_pull, masters_step, hold_after, levels, after, tick}
 use Rattle.law.proofs.Bus.HoldsAsOne.{longest_hold, held, asked_hold, hold_follows, answers_small}
 
 abbrev pub master_of : (h : HostBehaviour) → HostedMaster h → MasterModel transfers
@@ -66,16 +65,13 @@ module _ (hs : List HostBehaviour) (ds : List Behaviour) where
   answer_small u a h = let s = signal u.wire (levels_at hs ds u) in
       answers_small ds u.ports s.event s.bit s.free_and_high a (λ e. h (falls_from_high u.wire.last (levels_at hs ds u) e))
 
-  same_side : (e : Event) (o : Option Bool) (s : Bank PortModel ds) → side_sees ds e o s ≡ side_after (ports_side ds) s e o
-  same_side e o s = grind arith
-
   -- a tick of the bus is a tick of the machine
   pub tick_seen : (u : BusModel hs ds) (a : HoldAnswers ds) → LetGo u → seen (tick_at hs ds u a).1 ≡ tick transfers (ports_side ds) (seen u) (answer_at u a)
   tick_seen u a h =
       let v = levels_at hs ds u in
       let s = signal u.wire v in
       let masters_go = steps_of hs u.masters s in
-      let side_goes = side_follows ds u.ports s a ∙ same_side s.event s.bit (bank_map unheld ds u.ports) in
+      let side_goes = side_follows ds u.ports s a in
       let hold_goes = hold_follows ds u.ports s.event s.bit s.free_and_high a (λ e. h (falls_from_high u.wire.last v e)) in
       (λ i. record { wire = wire_after u.wire v; masters = masters_go i; side = side_goes i; hold = hold_goes i })
       ∙ ap (λ w. after transfers (ports_side ds) (seen u) w (answer_at u a)) (levels_seen u)

@@ -11,7 +11,7 @@ use Rattle.master.specs.Script.{Script}
 use Rattle.wire.specs.Pulls.{no_pulls, pulls_or, levels_of}
 use Rattle.wire.specs.Event.{event_between}
 use Rattle.wire.specs.Wire.{signal, wire_after}
-use Rattle.law.proofs.FarSide.{Side}
+use Rattle.law.proofs.FarSide.{Side, side_after}
 
 module _ (W : Script) where
   abbrev pub masters_pull : List (MasterModel W) → Pulls
@@ -44,20 +44,6 @@ hold_after n (Rise b) o h = n
 hold_after n Start o h = n
 hold_after n Stop o h = n
 hold_after n SteadyHigh o h = n
-
-module _ (D : Side) where
-  -- the side once it has taken the bit that counts, if any
-  abbrev pub taken : Option Bool → D.S → D.S
-  taken None s = s
-  taken (Some b) s = D.bit s b
-
-  abbrev pub side_after : D.S → Event → Option Bool → D.S
-  side_after s Fall o = taken o s
-  side_after s Start o = D.begin s
-  side_after s Stop o = D.finish s
-  side_after s (Rise b) o = s
-  side_after s SteadyHigh o = s
-  side_after s SteadyLow o = s
 
 module _ (W : Script) (D : Side) where
   -- hold: for how many ticks the side still pulls SCL

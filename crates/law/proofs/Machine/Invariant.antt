@@ -6,8 +6,8 @@ use Rattle.master.specs.Symbol.{pulls_sda}
 use Rattle.transfer.specs.Limits.{most_count}
 use Rattle.law.specs.Limits.{most_letters, ticks_of_low, ticks_of_letter, ticks_of_turn}
 use Rattle.law.specs.Monitor.{Monitor}
-use Rattle.law.proofs.FarSide.{Side}
-use Rattle.law.proofs.Machine.BusAsMachine.{taken, Bus}
+use Rattle.law.proofs.FarSide.{Side, taken}
+use Rattle.law.proofs.Machine.BusAsMachine.{Bus}
 use Rattle.law.proofs.Machine.PhasesOfSlot.{holds, early_lost, Cell, looks, cursors, idling, claimed, opened, lowered, fresh, settled, some, alive, Timed, advance, bus, free_bus, claimed_bus, opened_bus, low_bus, fresh_bus, settled_bus, carries}
 use Rattle.law.proofs.Machine.Arbitration.{at, slots, opened as opens_at}
 use Rattle.law.proofs.Machine.BookOfMachine.{Tasks, armed_if, arm_book, begins, Spell, spell, fallen, watch, arm_bus}

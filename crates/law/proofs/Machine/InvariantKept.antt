@@ -15,8 +15,8 @@ use Rattle.transfer.specs.Limits.{most_count}
 use Rattle.law.specs.Limits.{most_letters, ticks_of_low, ticks_of_letter, ticks_of_turn}
 use Rattle.law.specs.Letter.{stop, restart, bit_letter}
 use Rattle.law.specs.Monitor.{Monitor}
-use Rattle.law.proofs.FarSide.{Side, heard}
-use Rattle.law.proofs.Machine.BusAsMachine.{any_scl, verdicts, asked, taken, Bus, tick, tick_event, said, tick_verdicts}
+use Rattle.law.proofs.FarSide.{Side, heard, taken}
+use Rattle.law.proofs.Machine.BusAsMachine.{any_scl, verdicts, asked, Bus, tick, tick_event, said, tick_verdicts}
 use Rattle.law.proofs.Machine.PhasesOfSlot.{lines, shown, rank, holds, early_lost, late_lost, Cell, looks, notes, no_verdict, early, late, cursors, opened, settled, some, Every, Timed, least, stay, advance, finished, claim_all, free_bus, claimed_bus, opened_bus, low_bus, fresh_bus, settled_bus, carries, held, Shape}
 use Rattle.law.proofs.Machine.Arbitration.{at, lead, Quiet, Laws}
 use Rattle.law.proofs.Machine.BookOfMachine.{Tasks, Hosts, count, any, nobody, disarm, is_lost, telling, tellings, begins, leader, wins, outcomes, leader_side, book, feed, book_tells, Spell, spell, fallen, watch, falses, marks_too, turned, noted, sees, Loses, Stopped, Spelled, Plays}

@@ -5,8 +5,8 @@ use Rattle.wire.specs.declared.event.Event.TheVariants.{Fall, SteadyHigh}
 use Rattle.master.specs.MasterState.{MasterModel, master_step}
 use Rattle.master.specs.Script.{Script}
 use Rattle.transfer.specs.Limits.{most_count}
-use Rattle.law.proofs.FarSide.{Side}
-use Rattle.law.proofs.Machine.BusAsMachine.{any_scl, any_sda, masters_step, asked, taken, levels, tick}
+use Rattle.law.proofs.FarSide.{Side, taken}
+use Rattle.law.proofs.Machine.BusAsMachine.{any_scl, any_sda, masters_step, asked, levels, tick}
 use Rattle.law.proofs.Machine.PhasesOfSlot.{lines, shown, holds, Cell, out, live, look, looks, opened, lowered, settled, some, alive, Times, Timed, goes_on, advance, bus, opened_bus, low_bus, settled_bus}
 use Rattle.law.proofs.Machine.EventForAll.{step_all, turns_live, sda_all, all_of, via}
 
