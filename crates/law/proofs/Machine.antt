@@ -19,4 +19,4 @@ pub mod SlotsTellLeast
 pub mod Invariant
 pub mod TickOfStop
 pub mod InvariantKept
-pub mod LawOfMachine
+pub mod InvariantSays

@@ -1,5 +1,5 @@
 -- The making of a bus, and the law over every use from it.
-use Rattle.std.proofs.Common.{◌≡◌, ℕ, max, false, List, [], ◌∷◌, None, sym, refl, ap, ◌∙◌, subst, arith}
+use Rattle.std.proofs.Common.{◌≡◌, ℕ, max, false, List, [], ◌∷◌, None, sym, refl, ap, subst, arith}
 use Rattle.device.specs.Device.{Behaviour}
 use Rattle.host.specs.Host.{HostBehaviour}
 use Rattle.law.specs.Bus.{ClocksInRange}
@@ -12,18 +12,19 @@ use Rattle.master.specs.Script.{transfers}
 use Rattle.law.proofs.Alone.CursorsStayAlike.{Alike, cursor_laws}
 use Rattle.law.proofs.Alone.IdleBetweenTurns.{Idle}
 use Rattle.law.specs.Legal.{IsLegal}
+use Rattle.law.specs.Limits.{ticks_of_turn}
 use Rattle.law.proofs.Alone.PortsAsSide.{unheld, ports_side, idle_ports}
 use Rattle.law.proofs.Alone.SlotsRunOut.{slots_left}
-use Rattle.law.proofs.Machine.LawOfMachine.{every_use, every_stands}
+use Rattle.law.proofs.Machine.InvariantSays.{Kept, made_kept, keeps}
 use Rattle.law.proofs.Machine.Invariant.{Stands}
-use Rattle.law.proofs.Machine.BookOfMachine.{Clocks, armeds, fresh_masters, book, watch, spell, made as law_made, Law as LawLaw}
-use Rattle.law.proofs.Bus.BookAsMachine.{meanings, tasks, Kept}
+use Rattle.law.proofs.Machine.BookOfMachine.{Clocks, armeds, fresh_masters, book, watch, spell, made as law_made}
+use Rattle.law.proofs.Bus.BookAsMachine.{meanings, tasks, Kept as KeptEntries}
 use Rattle.law.proofs.Bus.HoldsAsOne.{longest_hold}
 use Rattle.law.proofs.Bus.HostsAsOne.{all_hosts, plays}
-use Rattle.law.proofs.Bus.LawOfUse.{lawful}
+use Rattle.law.proofs.Bus.LawOfUse.{KeptAt, lawful}
 use Rattle.law.proofs.Bus.CallsAsSteps.{reached}
 use Rattle.law.proofs.Bus.TickAsMachine.{masters_of}
-use Rattle.law.proofs.Bus.UseAsMachine.{hosts_of, law_use, used_as, Good, law_uses}
+use Rattle.law.proofs.Bus.UseAsMachine.{hosts_of, law_use, used_as, Good}
 
 abbrev clock_of : (h : HostBehaviour) → HostedMaster h → ℕ × ℕ
 clock_of h x = (x.master.low, x.master.high)
@@ -57,7 +58,7 @@ module _ (hs : List HostBehaviour) (ds : List Behaviour) where
   new_tasks [] ms = refl
   new_tasks (h ∷ gs) ms = ap (λ l. None ∷ l) (new_tasks gs ms.1)
 
-  new_kept : (gs : List HostBehaviour) (ms : Bank HostedMaster gs) → Kept gs (bank_map (new_entry) gs ms)
+  new_kept : (gs : List HostBehaviour) (ms : Bank HostedMaster gs) → KeptEntries gs (bank_map (new_entry) gs ms)
   new_kept [] ms = tt
   new_kept (h ∷ gs) ms = (tt, new_kept gs ms.1)
 
@@ -77,25 +78,39 @@ module _ (hs : List HostBehaviour) (ds : List Behaviour) where
       (book transfers (ports_side ds) (all_hosts hs) (new_meanings hs ms i) (new_tasks hs ms i) (rest ps) None)
       (watch 0 false [] (spell None [])) 0 0
 
+  -- the invariant at every point of every use from the making
+  pub record Reached (y : Use hs ds) : Type 0 where
+    pub good : Good hs ds y
+    pub due : ℕ
+    pub kept : KeptAt hs ds y due
+
+  kept_at : (ms : Bank HostedMaster hs) (ps : Bank PortModel ds) → ClocksInRange hs ms → (cs : List (Call hs ds)) →
+      Reached (use_after hs ds (new_use hs ds ms ps) cs)
+  kept_at ms ps c cs =
+      let x = new_use hs ds ms ps in
+      let w = reached hs ds x cs (begins_good ms ps) in
+      let first : KeptAt hs ds x ticks_of_turn =
+          subst (λ y. Kept transfers (ports_side ds) slots_left (all_hosts hs) Alike IsLegal (Idle ds) y ticks_of_turn) (sym (begins_as ms ps))
+          (made_kept transfers (ports_side ds) slots_left (all_hosts hs) Alike IsLegal (Idle ds) (bank_list clock_of hs ms) (hosts_of hs ms)
+          (rest ps) (clocks_fit hs ms c) (record { devices = bank_map addressed_device ds ps; ports_are = refl })) in
+      let k = keeps transfers (ports_side ds) slots_left (all_hosts hs) Alike IsLegal (Idle ds) cursor_laws (plays hs ds) w.steps w.held
+          (used_as hs ds x) ticks_of_turn first in
+      record {
+        good = w.good;
+        due = k.0;
+        kept = subst (λ y. Kept transfers (ports_side ds) slots_left (all_hosts hs) Alike IsLegal (Idle ds) y k.0) (sym w.as_law) k.1;
+      }
+
   -- the law over every use of a bus
   pub every_use_lawful : (ms : Bank HostedMaster hs) (ps : Bank PortModel ds) → ClocksInRange hs ms → EveryUse hs ds ms ps
-  every_use_lawful ms ps c cs =
-      let x = new_use hs ds ms ps in
-      let w = reached hs ds x cs (begins_good ms ps) in
-      let all = every_use transfers (ports_side ds) slots_left (all_hosts hs) Alike IsLegal (Idle ds) cursor_laws (plays hs ds) (bank_list clock_of hs ms) (hosts_of hs ms) (rest ps)
-      (clocks_fit hs ms c) (record { devices = bank_map addressed_device ds ps; ports_are = refl }) in
-      let as_law : used_as hs ds (use_after hs ds x cs) ≡ law_uses hs ds (law_made transfers (ports_side ds) (all_hosts hs) (bank_list clock_of hs ms) (hosts_of hs ms) (rest ps)) w.steps = w.as_law ∙ ap (λ y. law_uses hs ds y w.steps) (begins_as ms ps) in
-      lawful hs ds (use_after hs ds x cs) w.good (subst (LawLaw transfers (ports_side ds) slots_left (all_hosts hs)) (sym as_law) (all w.steps w.held))
+  every_use_lawful ms ps c cs = let k = kept_at ms ps c cs in
+      lawful hs ds (use_after hs ds (new_use hs ds ms ps) cs) k.good k.due k.kept
 
-  -- the invariant of the machine of the law, of a use
+  -- the invariant of the machine, of a use
   abbrev pub StandsAt : Use hs ds → Type 0
-  StandsAt y = let x = used_as hs ds y in (n : ℕ) × Stands transfers (ports_side ds) slots_left Alike IsLegal (Idle ds) x.bus x.book.armed x.book.side x.book.turn x.watch n
+  StandsAt y = let x = used_as hs ds y in
+      (n : ℕ) × Stands transfers (ports_side ds) slots_left Alike IsLegal (Idle ds) x.bus x.book.armed x.book.side x.book.turn x.watch n
 
-  pub every_use_stands : (ms : Bank HostedMaster hs) (ps : Bank PortModel ds) → ClocksInRange hs ms → (cs : List (Call hs ds)) → StandsAt (use_after hs ds (new_use hs ds ms ps) cs)
-  every_use_stands ms ps c cs =
-      let x = new_use hs ds ms ps in
-      let w = reached hs ds x cs (begins_good ms ps) in
-      let all = every_stands transfers (ports_side ds) slots_left (all_hosts hs) Alike IsLegal (Idle ds) cursor_laws (plays hs ds) (bank_list clock_of hs ms) (hosts_of hs ms) (rest ps)
-      (clocks_fit hs ms c) (record { devices = bank_map addressed_device ds ps; ports_are = refl }) w.steps w.held in
-      let as_law : used_as hs ds (use_after hs ds x cs) ≡ law_uses hs ds (law_made transfers (ports_side ds) (all_hosts hs) (bank_list clock_of hs ms) (hosts_of hs ms) (rest ps)) w.steps = w.as_law ∙ ap (λ y. law_uses hs ds y w.steps) (begins_as ms ps) in
-      subst (λ y. (n : ℕ) × Stands transfers (ports_side ds) slots_left Alike IsLegal (Idle ds) y.bus y.book.armed y.book.side y.book.turn y.watch n) (sym as_law) all
+  pub every_use_stands : (ms : Bank HostedMaster hs) (ps : Bank PortModel ds) → ClocksInRange hs ms → (cs : List (Call hs ds)) →
+      StandsAt (use_after hs ds (new_use hs ds ms ps) cs)
+  every_use_stands ms ps c cs = let k = kept_at ms ps c cs in (k.due, k.kept.stands)

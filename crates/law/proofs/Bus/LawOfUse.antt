@@ -1,4 +1,4 @@
--- The law over every use of a bus, from the law over its machine.
+-- The law at one point of a use, from the invariant of its machine and what that says of the next tick.
 use Rattle.std.proofs.Common.{◌≡◌, ℕ, zero, suc, ◌+◌, ◌<◌, ◌≤◌, Bool, true, false, ltb, List, [], ◌∷◌, map, is_some, Some, None, Ok, Err, cond, refl, Option, Result, sym, ap, ◌∙◌, subst, ap₂, arith}
 use Rattle.std.specs.Prelude.{slice_index_or}
 use Rattle.std.proofs.lemmas.Bool.{le-ltb}
@@ -27,13 +27,16 @@ use Rattle.law.specs.Legal.{IsLegal}
 use Rattle.law.specs.Limits.{most_ticks, most_ticks_of_turn}
 use Rattle.law.proofs.Alone.PortsAsSide.{ports_side}
 use Rattle.law.proofs.Alone.SlotsRunOut.{slots_left}
+use Rattle.law.proofs.Alone.CursorsStayAlike.{Alike, cursor_laws}
+use Rattle.law.proofs.Alone.IdleBetweenTurns.{Idle}
 use Rattle.law.proofs.Machine.BusAsMachine.{verdicts, tick_event}
+use Rattle.law.proofs.Machine.InvariantSays.{Kept, stands_armed, stands_side, stands_out, stands_left, FineAt, fine, answers_as, tells_in}
 use Rattle.law.proofs.Machine.Arbitration.{at}
-use Rattle.law.proofs.Machine.BookOfMachine.{any, count, Law as LawLaw, turned, tick_tells, book_tells as law_tells, ticks_of as steps_ticks}
+use Rattle.law.proofs.Machine.BookOfMachine.{any, count, Use as LawUse, turned, tick_tells, book_tells as law_tells, ticks_of as steps_ticks}
 use Rattle.law.proofs.Bus.BookAsMachine.{booked, tasks, contenders, contenders_legal, turn_if, contests_of, tells_booked, arm_answers}
 use Rattle.law.proofs.Bus.LeastStringLeads.{LegalIf, AllLegal, carry, lead, lead_legal, least_is, lexb_is, text, text_is}
 use Rattle.law.proofs.Bus.CountsOfRun.{somes, count_somes, any_somes, masters_armed, entries_armed, pulls_none, lost_at, placed_back, run_counts}
-use Rattle.law.proofs.Bus.HostsAsOne.{all_hosts}
+use Rattle.law.proofs.Bus.HostsAsOne.{all_hosts, plays}
 use Rattle.law.proofs.Bus.RunIsItsTicks.{runs_are_ticks}
 use Rattle.law.proofs.Bus.Ranks.{carried_from, carried_at}
 use Rattle.law.proofs.Bus.CallsAsSteps.{reached}
@@ -63,10 +66,17 @@ turn_is : (v : Turn) (l : List (Option TransferModel)) → v ≡ opened → turn
 turn_is v l h = grind arith
 
 module _ (hs : List HostBehaviour) (ds : List Behaviour) where
-  abbrev Lawful : Use hs ds → Type 0
-  Lawful x = LawLaw transfers (ports_side ds) slots_left (all_hosts hs) (used_as hs ds x)
+  -- the invariant of a use
+  abbrev pub KeptAt : Use hs ds → ℕ → Type 0
+  KeptAt x n = Kept transfers (ports_side ds) slots_left (all_hosts hs) Alike IsLegal (Idle ds) (used_as hs ds x) n
 
-  module _ (x : Use hs ds) (g : Good hs ds x) (law : Lawful x) where
+  module _ (x : Use hs ds) (g : Good hs ds x) (due : ℕ) (k : KeptAt x due) where
+    abbrev y : LawUse transfers (ports_side ds) (all_hosts hs)
+    y = used_as hs ds x
+
+    abbrev next : FineAt transfers (ports_side ds) slots_left (all_hosts hs) Alike IsLegal (Idle ds) cursor_laws (plays hs ds) y due 0
+    next = fine transfers (ports_side ds) slots_left (all_hosts hs) Alike IsLegal (Idle ds) cursor_laws (plays hs ds) y due 0 (omega arith) k
+
     abbrev b : Book hs ds
     b = x.book
 
@@ -77,18 +87,18 @@ module _ (hs : List HostBehaviour) (ds : List Behaviour) where
     legal = contenders_legal hs b.entries
 
     armed_same : armed_now hs ds x ≡ bank_list entry_is_armed hs b.entries
-    armed_same = sym (masters_armed hs x.bus.masters) ∙ (ap somes law.point.armed ∙ entries_armed hs b.entries g.sound.kept)
+    armed_same = sym (masters_armed hs x.bus.masters) ∙ (ap somes (stands_armed transfers (ports_side ds) slots_left Alike IsLegal (Idle ds) y.bus y.book.armed y.book.side y.book.turn y.watch due k.stands) ∙ entries_armed hs b.entries g.sound.kept)
 
     tasks_counted : count (tasks hs b.entries) ≡ true_count (armed_now hs ds x)
     tasks_counted = count_somes (tasks hs b.entries) ∙ ap true_count (entries_armed hs b.entries g.sound.kept ∙ sym armed_same)
 
     point : Point hs ds x
     point = record {
-      hosts = law.point.hosts;
-      devices = λ e. placed_back hs ds ds x.bus.ports b.devices (law.point.side e);
+      hosts = k.hosts;
+      devices = λ e. placed_back hs ds ds x.bus.ports b.devices (stands_side transfers (ports_side ds) slots_left Alike IsLegal (Idle ds) y.bus y.book.armed y.book.side y.book.turn y.watch due k.stands e);
       armed = armed_same;
-      counts = law.point.arms ∙ ap (λ n. x.told + n) tasks_counted;
-      silent = λ e i m. pulls_none hs x.bus.masters i (law.point.out (turn_some b.turn l e) i m);
+      counts = k.arms ∙ ap (λ n. x.told + n) tasks_counted;
+      silent = λ e i m. pulls_none hs x.bus.masters i (stands_out transfers (ports_side ds) slots_left Alike IsLegal (Idle ds) y.bus y.book.armed y.book.side y.book.turn y.watch due k.stands (turn_some b.turn l e) i m);
     }
 
     abbrev later : Monitor
@@ -113,7 +123,7 @@ module _ (hs : List HostBehaviour) (ds : List Behaviour) where
     loses i e =
         let s = signal x.bus.wire (levels_at hs ds x.bus) in
         let v = subst (λ w. slice_index_or (verdicts transfers (masters_of hs x.bus.masters) (signal x.bus.wire w)) i quiet ≡ lost) (levels_seen hs ds x.bus) (lost_at hs x.bus.masters s i e) in
-        let z = law.ticking.loses i v in
+        let z = next.loses i v in
         let o = turn_open b.turn l z.turn z.now in
         let here : at l i ≡ Some z.task = ap (λ m. at m i) o.1 ∙ z.contends in
         let best : lead ds b.devices l ≡ Some z.least = ap (lead ds b.devices) o.1 ∙ z.leads in
@@ -138,7 +148,7 @@ module _ (hs : List HostBehaviour) (ds : List Behaviour) where
     stops e o i own c =
         let mine = carried_from ds b.devices l i own (ap (λ cs. slice_index_or cs i None) (sym (contests_of hs ds b)) ∙ c) in
         let p = mine.0 in
-        let z = law.ticking.stops (sym (event_seen hs ds x.bus) ∙ e) l (turn_is b.turn l o) i p mine.1 in
+        let z = next.stops (sym (event_seen hs ds x.bus) ∙ e) l (turn_is b.turn l o) i p mine.1 in
         record {
           unmarked = ap (λ ts. is_some (slice_index_or ts i None)) told_same ∙ z.unmarked;
           first = (
@@ -155,13 +165,13 @@ module _ (hs : List HostBehaviour) (ds : List Behaviour) where
     spells : event_at hs ds x.bus ≡ Stop → b.turn ≡ opened → (best : TransferResult ds) → least_result ds (contender_results hs ds b) ≡ Some best →
         (monitor_after hs ds x.watch b (event_at hs ds x.bus)).spelled ≡ best.letters
     spells e o best c =
-        let z = law.ticking.spelled (sym (event_seen hs ds x.bus) ∙ e) l (turn_is b.turn l o) in
+        let z = next.spelled (sym (event_seen hs ds x.bus) ∙ e) l (turn_is b.turn l o) in
         let same : carry ds b.devices z.least ≡ best = let f = leads z.least z.leads in cc in
         ap (λ w. w.spelled) noted ∙ (z.whole ∙ (text_is ds b.devices z.least (lead_fits z.least z.leads) ∙ ap (λ u. u.letters) same))
 
     tick : TickLaw hs ds x
     tick = record {
-      tells = told_same ∙ (law.ticking.tells ∙ (ap (λ e. law_tells transfers (ports_side ds) slots_left (all_hosts hs) (booked hs ds b) e) (sym (event_seen hs ds x.bus)) ∙ sym (tells_booked hs ds b (event_at hs ds x.bus))));
+      tells = told_same ∙ (next.tells ∙ (ap (λ e. law_tells transfers (ports_side ds) slots_left (all_hosts hs) (booked hs ds b) e) (sym (event_seen hs ds x.bus)) ∙ sym (tells_booked hs ds b (event_at hs ds x.bus))));
       shows = λ a. refl;
       marks = marks_told hs x.bus.masters (signal x.bus.wire (levels_at hs ds x.bus));
       loses = loses;
@@ -170,7 +180,7 @@ module _ (hs : List HostBehaviour) (ds : List Behaviour) where
     }
 
     arm : (n : ℕ) → (arm_at hs ds x.bus n).0 ≡ (book_arm hs ds b n).0
-    arm n = arm_answer_is hs x.bus.masters n ∙ (law.arming n ∙ sym (arm_answers hs b.entries n g.sound.kept))
+    arm n = arm_answer_is hs x.bus.masters n ∙ (answers_as transfers (ports_side ds) slots_left (all_hosts hs) Alike IsLegal (Idle ds) cursor_laws (plays hs ds) y due n k ∙ sym (arm_answers hs b.entries n g.sound.kept))
 
     run : (n : ℕ) (a : ℕ → HoldAnswers ds) → n ≤ most_ticks → (r : RunModel) → (run_at hs ds x.bus n a).0 ≡ Ok r → ((use_after_call hs ds x (runs n a)).told ≡ x.told + r.outcomes) × (ticks_of_call hs ds x (runs n a) ≡ r.ticks)
     run n a h r e =
@@ -201,7 +211,8 @@ module _ (hs : List HostBehaviour) (ds : List Behaviour) where
         let w = reached hs ds x cs g in
         let some : any (tasks hs b.entries) ≡ true = any_somes (tasks hs b.entries) ∙ (ap any_true (entries_armed hs b.entries g.sound.kept ∙ sym armed_same) ∙ e) in
         let long : most_ticks_of_turn ≤ steps_ticks w.steps = subst (λ n. most_ticks_of_turn ≤ n) (sym w.in_ticks) h in
-        subst (λ u. x.told < u.told) (sym w.as_law) (law.told some w.steps w.held long)
+        subst (λ u. x.told < u.told) (sym w.as_law) (tells_in transfers (ports_side ds) slots_left (all_hosts hs) Alike IsLegal (Idle ds) cursor_laws (plays hs ds) w.steps w.held y due k some
+        (let z = stands_left transfers (ports_side ds) slots_left Alike IsLegal (Idle ds) y.bus y.book.armed y.book.side y.book.turn y.watch due k.stands in omega arith))
 
     pub lawful : Law hs ds x
     lawful = record { point = point; tick = tick; arm = arm; run = run; run_leaves = run_leaves; runs_are_ticks = runs_are_ticks hs ds x; lively = lively }

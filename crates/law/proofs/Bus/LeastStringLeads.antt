@@ -1,5 +1,5 @@
 -- Who leads by the letters of carried alone is who leads slot by slot.
-use Rattle.std.proofs.Common.{◌≡◌, ℕ, Bool, cond, eqb, List, [], ◌∷◌, map, Some, None, Option, sym, refl, ap, ◌∙◌, subst, ap₂, le_refl, arith}
+use Rattle.std.proofs.Common.{◌≡◌, Bool, cond, List, [], ◌∷◌, map, Some, None, Option, sym, refl, ap, ◌∙◌, subst, ap₂, le_refl, arith}
 use Rattle.std.specs.Option.{option_map}
 use Rattle.transfer.specs.Transfer.{TransferModel}
 use Rattle.device.specs.Device.{Behaviour}

@@ -11,7 +11,7 @@ use Rattle.law.specs.Bank.{Bank, bank_map, bank_list}
 use Rattle.law.specs.Bus.{all_pulls, HoldAnswers, ports_step, BusModel, levels_at, tick_at}
 use Rattle.transfer.specs.Limits.{most_count}
 use Rattle.master.specs.Master.{HostedMaster, hosted_step, hosted_pulls}
-use Rattle.master.specs.MasterState.{MasterModel, master_step}
+use Rattle.master.specs.MasterState.{MasterModel}
 use Rattle.port.specs.Port.{PortModel, port_pulls}
 use Rattle.master.specs.Script.{transfers}
 use Rattle.wire.specs.Pulls.{pulls_or, levels_of}

@@ -1,5 +1,5 @@
 -- Every use of a bus: the bus with its hosts, the book beside it, and what a watcher of the ticks notes.
-use Rattle.std.proofs.Common.{◌≡◌, ℕ, zero, suc, ◌+◌, ◌<◌, ◌≤◌, Bool, true, false, cond, not, ◌||◌, List, [], ◌∷◌, ◌++◌, is_some, Some, None, Ok, Err, Option, Result, map}
+use Rattle.std.proofs.Common.{◌≡◌, ℕ, zero, suc, ◌+◌, ◌≤◌, Bool, true, false, cond, not, ◌||◌, List, [], ◌∷◌, ◌++◌, is_some, Some, None, Ok, Err, Option, Result, map}
 use Rattle.std.specs.Prelude.{slice_index_or}
 use Rattle.std.specs.List.{list_any}
 use Rattle.std.specs.Option.{option_map}
@@ -11,12 +11,12 @@ use Rattle.master.specs.MasterState.{MasterModel, VerdictModel, quiet, lost, tol
 use Rattle.master.specs.Script.{Script}
 use Rattle.wire.specs.Wire.{new_wire}
 use Rattle.transfer.specs.Limits.{most_count}
-use Rattle.law.specs.Limits.{most_letters, most_ticks_of_turn}
+use Rattle.law.specs.Limits.{most_letters}
 use Rattle.law.proofs.FarSide.{Side}
 use Rattle.law.proofs.Machine.BusAsMachine.{Bus, tick, tick_event, tick_verdicts}
 use Rattle.law.specs.Monitor.{Monitor, letters_of_bit, monitor_after_event as sees_event}
 use Rattle.law.specs.Law.{FirstDifference}
-use Rattle.law.specs.Letter.{Letter, stop, restart, bit_letter, same_string, first_or_same}
+use Rattle.law.specs.Letter.{Letter, same_string, first_or_same}
 use Rattle.law.proofs.Machine.Arbitration.{at, Quiet, alone, alone_side, alone_end}
 
 -- for each master a task, or none
@@ -326,16 +326,6 @@ abbrev pub Clocks : List (ℕ × ℕ) → Type 0
 Clocks [] = Unit {0}
 Clocks (c ∷ cs) = ((1 ≤ c.0) × (c.0 ≤ most_count) × (1 ≤ c.1) × (c.1 ≤ most_count)) × Clocks cs
 
-module _ (W : Script) (D : Side) (H : Hosts W) where
-  -- what holds between any two steps
-  pub record Point (x : Use W D H) : Type 0 where
-    pub hosts : x.hosts ≡ x.book.hosts
-    pub armed : armeds W x.bus.masters ≡ x.book.armed
-    pub side : x.bus.wire.busy ≡ false → x.bus.side ≡ x.book.side
-    pub arms : x.arms ≡ x.told + count x.book.armed
-    -- who was marked lost pulls neither line up to the stop
-    pub out : is_some x.book.turn ≡ true → (i : ℕ) → slice_index_or x.watch.marked i false ≡ true → pulling W x.bus.masters i ≡ false
-
 module _ (W : Script) (D : Side) (left : W.Cursor → ℕ) where
   -- what a mark of a loss says: t is the open turn, s the side at rest, v who was marked before, and w is noted with this tick's event
   pub record Loses (t : Option (Tasks W)) (s : D.S) (v : List Bool) (w : Monitor) (i : ℕ) : Type 0 where
@@ -364,28 +354,6 @@ module _ (W : Script) (D : Side) (left : W.Cursor → ℕ) where
     pub least : W.Task
     pub leads : leader W D left l (D.begin s) ≡ Some least
     pub whole : letters ≡ task_string W D left least (D.begin s)
-
-module _ (W : Script) (D : Side) (left : W.Cursor → ℕ) (H : Hosts W) where
-  pub record Ticks (x : Use W D H) : Type 0 where
-    pub tells : tick_tells W D x.bus ≡ book_tells W D left H x.book (tick_event W D x.bus)
-    pub loses : (i : ℕ) → slice_index_or (tick_verdicts W D x.bus) i quiet ≡ lost →
-        Loses W D left x.book.turn x.book.side x.watch.marked (turned W x.watch x.book.armed x.book.turn (tick_event W D x.bus)) i
-    pub stops : tick_event W D x.bus ≡ Stop → (l : Tasks W) → x.book.turn ≡ Some l → (i : ℕ) (p : W.Task) → at l i ≡ Some p →
-        Stopped W D left l x.book.side x.watch.marked (tick_tells W D x.bus) i p
-    pub spelled : tick_event W D x.bus ≡ Stop → (l : Tasks W) → x.book.turn ≡ Some l →
-        Spelled W D left l x.book.side (turned W x.watch x.book.armed x.book.turn (tick_event W D x.bus)).spelled
-
-  pub record Law (x : Use W D H) : Type 0 where
-    pub point : Point W D H x
-    pub arming : (i : ℕ) → arm_answer W x.bus.masters (H.wants x.hosts) i ≡ answer x.book.armed (H.wants x.book.hosts) i
-    pub ticking : Ticks x
-    -- so many ticks from a point with a master armed tell an outcome, whatever arms come between
-    pub told : any x.book.armed ≡ true → (us : List Step) → Held us → most_ticks_of_turn ≤ ticks_of us →
-        x.told < (uses W D left H x us).told
-
-  -- at every point of every use
-  abbrev pub EveryUse : Use W D H → Type 0
-  EveryUse x = (us : List Step) → Held us → Law (uses W D left H x us)
 
 -- what scripts, hosts and the side must satisfy; Fits: what hosts may want; Rest: how a stop leaves the side
 pub record Plays (W : Script) (D : Side) (left : W.Cursor → ℕ) (H : Hosts W) (Alike : W.Cursor → W.Cursor → Type 0) (Fits : W.Task → Type 0) (Rest : D.S → Type 0) : Type 0 where

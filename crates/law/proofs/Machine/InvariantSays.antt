@@ -1,4 +1,4 @@
--- The law at every point of every use, from the invariant.
+-- What the invariant says of a use of the machine, and that steps keep it and tell an outcome in time.
 use Rattle.std.proofs.Common.{◌≡◌, ℕ, zero, suc, ◌+◌, ◌<◌, ◌≤◌, Bool, true, false, ◌||◌, ◌⊎◌, List, [], ◌∷◌, is_some, Some, None, Option, sym, refl, ap, ◌∙◌, subst, ap₂, inl, inr, arith}
 use Rattle.std.specs.Prelude.{slice_index_or}
 use Rattle.master.specs.declared.symbol.Symbol.{Symbol}
@@ -15,7 +15,7 @@ use Rattle.law.proofs.FarSide.{Side}
 use Rattle.law.proofs.Machine.BusAsMachine.{Bus, tick, tick_event, tick_verdicts}
 use Rattle.law.proofs.Machine.PhasesOfSlot.{early_lost, Cell, out, looks, idling, claimed, opened, lowered, released, fresh, settled, Timed, bus, claimed_bus, opened_bus, low_bus, fresh_bus, settled_bus}
 use Rattle.law.proofs.Machine.Arbitration.{at, Laws}
-use Rattle.law.proofs.Machine.BookOfMachine.{Tasks, Hosts, Step, arms, ticks, accepted, count, any, answer_if, armed_if, answer, arm_book, nobody, disarm, task_of, armeds, pulling, arm_answer, leader, outcomes, Book, stop_tells, book_tells, feed_stop, feed, watch, spell, fresh_masters, Use, made, does, uses, Held, ticks_of, Clocks, Law, EveryUse, Plays}
+use Rattle.law.proofs.Machine.BookOfMachine.{Tasks, Hosts, Step, arms, ticks, accepted, count, any, answer_if, armed_if, answer, arm_book, nobody, task_of, armeds, pulling, arm_answer, Book, stop_tells, book_tells, feed_stop, feed, watch, spell, fresh_masters, Use, made, does, uses, Held, ticks_of, Clocks, Plays}
 use Rattle.law.proofs.Machine.CellsOfTurn.{cell_armeds, Holding, marked, never, pulls_nothing, armeds_looks}
 use Rattle.law.proofs.Machine.Invariant.{Stands, idle, claims, begun, low, rose, high, fresh_keeps, arm_stands}
 use Rattle.law.proofs.Machine.InvariantKept.{Fine, tick_stands}
@@ -61,7 +61,7 @@ module _ (W : Script) where
 
 -- what the invariant says of one point
 module _ (W : Script) (D : Side) (left : W.Cursor → ℕ) (Alike : W.Cursor → W.Cursor → Type 0) (Fits : W.Task → Type 0) (Rest : D.S → Type 0) where
-  stands_armed : (u : Bus W D) (os : Tasks W) (s : D.S) (t : Option (Tasks W)) (w : Monitor) (n : ℕ) → Stands W D left Alike Fits Rest u os s t w n → armeds W u.masters ≡ os
+  pub stands_armed : (u : Bus W D) (os : Tasks W) (s : D.S) (t : Option (Tasks W)) (w : Monitor) (n : ℕ) → Stands W D left Alike Fits Rest u os s t w n → armeds W u.masters ≡ os
   stands_armed _ _ _ _ _ _ (idle u os s w cs e a t g q y) = ap (λ x. armeds W x.masters) e ∙ armeds_looks W (idling W) (λ m p. refl) cs ∙ sym a
   stands_armed _ _ _ _ _ _ (claims u os s l v sp cs e m g q y) = ap (λ x. armeds W x.masters) e ∙ armeds_looks W (claimed W) (λ m p. refl) cs ∙ sym g.armed
   stands_armed _ _ _ _ _ _ (begun u os s l v sp cs k n e b c m g q y) = ap (λ x. armeds W x.masters) e ∙ armeds_looks W (opened W k) (λ m p. refl) cs ∙ sym g.armed
@@ -69,14 +69,14 @@ module _ (W : Script) (D : Side) (left : W.Cursor → ℕ) (Alike : W.Cursor →
   stands_armed _ _ _ _ _ _ (rose u os s0 l v sp cs k r s b n e j c m g q y) = ap (λ x. armeds W x.masters) e ∙ armeds_looks W (fresh W b) (fresh_keeps W b) cs ∙ sym g.armed
   stands_armed _ _ _ _ _ _ (high u os s0 l v sp cs k r s d c f n e j o z m g q y) = ap (λ x. armeds W x.masters) e ∙ armeds_looks W (settled W f) (λ m p. refl) cs ∙ sym g.armed
 
-  stands_side : (u : Bus W D) (os : Tasks W) (s : D.S) (t : Option (Tasks W)) (w : Monitor) (n : ℕ) → Stands W D left Alike Fits Rest u os s t w n → u.wire.busy ≡ false → u.side ≡ s
+  pub stands_side : (u : Bus W D) (os : Tasks W) (s : D.S) (t : Option (Tasks W)) (w : Monitor) (n : ℕ) → Stands W D left Alike Fits Rest u os s t w n → u.wire.busy ≡ false → u.side ≡ s
   stands_side u os s t w n h k = grind arith
 
   outs : (u u' : Bus W D) (f : Symbol → Bool) (g : MasterModel W → W.Cursor → MasterModel W) (each : (m : MasterModel W) (p : W.Cursor) → f (W.symbol p) ≡ true → ((g m p).pulls.scl || (g m p).pulls.sda) ≡ false)
       (l : Tasks W) (cs : List (Cell W)) (v : List Bool) (i : ℕ) → u ≡ u' → u'.masters ≡ looks W g cs → v ≡ marked W f l cs → slice_index_or v i false ≡ true → pulling W u.masters i ≡ false
   outs u u' f g each l cs v i e d m h = ap (λ x. pulling W x.masters i) e ∙ ap (λ x. pulling W x i) d ∙ pulls_nothing W f g each l cs i (sym (ap (λ x. slice_index_or x i false) m) ∙ h)
 
-  stands_out : (u : Bus W D) (os : Tasks W) (s : D.S) (t : Option (Tasks W)) (w : Monitor) (n : ℕ) → Stands W D left Alike Fits Rest u os s t w n →
+  pub stands_out : (u : Bus W D) (os : Tasks W) (s : D.S) (t : Option (Tasks W)) (w : Monitor) (n : ℕ) → Stands W D left Alike Fits Rest u os s t w n →
       is_some t ≡ true → (i : ℕ) → slice_index_or w.marked i false ≡ true → pulling W u.masters i ≡ false
   stands_out _ _ _ _ _ _ (idle u os s w cs e a t g q y) h i k = cc
   stands_out _ _ _ _ _ _ (claims u os s l v sp cs e m g q y) h i k = outs u (claimed_bus W D cs s) never (claimed W) (never_out W (claimed W)) l cs v i e refl m.0 k
@@ -85,7 +85,7 @@ module _ (W : Script) (D : Side) (left : W.Cursor → ℕ) (Alike : W.Cursor →
   stands_out _ _ _ _ _ _ (rose u os s0 l v sp cs k r s b n e j c m g q y) h i z = outs u (fresh_bus W D b cs s) (early_lost b) (fresh W b) (λ m p. rise_out W (released W m p) p (W.symbol p) b) l cs v i e refl m.0 z
   stands_out _ _ _ _ _ _ (high u os s0 l v sp cs k r s d c f n e j o z m g q y) h i x = outs u (settled_bus W D d c cs s f) never (settled W f) (never_out W (settled W f)) l cs v i e refl m.0 x
 
-  stands_left : (u : Bus W D) (os : Tasks W) (s : D.S) (t : Option (Tasks W)) (w : Monitor) (n : ℕ) → Stands W D left Alike Fits Rest u os s t w n → n ≤ ticks_of_turn
+  pub stands_left : (u : Bus W D) (os : Tasks W) (s : D.S) (t : Option (Tasks W)) (w : Monitor) (n : ℕ) → Stands W D left Alike Fits Rest u os s t w n → n ≤ ticks_of_turn
   stands_left u os s t w n h = grind arith
 
 -- the making
@@ -127,12 +127,12 @@ module _ (W : Script) (D : Side) (left : W.Cursor → ℕ) (H : Hosts W) where
 
 module _ (W : Script) (D : Side) (left : W.Cursor → ℕ) (H : Hosts W) (Alike : W.Cursor → W.Cursor → Type 0) (Fits : W.Task → Type 0) (Rest : D.S → Type 0) where
   -- the invariant of a use
-  record Kept (x : Use W D H) (n : ℕ) : Type 0 where
-    stands : Stands W D left Alike Fits Rest x.bus x.book.armed x.book.side x.book.turn x.watch n
-    hosts : x.hosts ≡ x.book.hosts
-    arms : x.arms ≡ x.told + count x.book.armed
+  pub record Kept (x : Use W D H) (n : ℕ) : Type 0 where
+    pub stands : Stands W D left Alike Fits Rest x.bus x.book.armed x.book.side x.book.turn x.watch n
+    pub hosts : x.hosts ≡ x.book.hosts
+    pub arms : x.arms ≡ x.told + count x.book.armed
 
-  made_kept : (cs : List (ℕ × ℕ)) (a : H.State) (s : D.S) → Clocks cs → Rest s → Kept (made W D H cs a s) ticks_of_turn
+  pub made_kept : (cs : List (ℕ × ℕ)) (a : H.State) (s : D.S) → Clocks cs → Rest s → Kept (made W D H cs a s) ticks_of_turn
   made_kept cs a s c q = record {
     stands = idle (made W D H cs a s).bus (armeds W (fresh_masters W cs)) s (watch 0 false [] (spell None [])) (made_cells W cs) (ap (λ ms. bus W D true true false ms s None 0) (made_looks W cs))
         (made_armeds W cs) (made_timed W cs c) (made_holding W cs) q (λ j t e. nobody_armed j t e);
@@ -159,11 +159,15 @@ module _ (W : Script) (D : Side) (left : W.Cursor → ℕ) (H : Hosts W) (Alike 
   hears b SteadyHigh = unheard b.hosts b.armed
   hears b SteadyLow = unheard b.hosts b.armed
 
-  fine : (x : Use W D H) (n h : ℕ) → h ≤ most_count → Kept W D left H Alike Fits Rest x n →
-      Fine W D left H Alike Fits Rest laws plays x.book.hosts x.book.armed x.book.side x.book.turn x.watch n (tick W D x.bus h) (tick_event W D x.bus) (tick_verdicts W D x.bus)
+  -- what the next tick of a use does
+  abbrev pub FineAt : Use W D H → ℕ → ℕ → Type 0
+  FineAt x n h = Fine W D left H Alike Fits Rest laws plays x.book.hosts x.book.armed x.book.side x.book.turn x.watch n
+      (tick W D x.bus h) (tick_event W D x.bus) (tick_verdicts W D x.bus)
+
+  pub fine : (x : Use W D H) (n h : ℕ) → h ≤ most_count → Kept W D left H Alike Fits Rest x n → FineAt x n h
   fine x n h b k = tick_stands W D left H Alike Fits Rest laws plays x.book.hosts x.bus x.book.armed x.book.side x.book.turn x.watch n h b k.stands
 
-  answers_as : (x : Use W D H) (n i : ℕ) → Kept W D left H Alike Fits Rest x n → arm_answer W x.bus.masters (H.wants x.hosts) i ≡ answer x.book.armed (H.wants x.book.hosts) i
+  pub answers_as : (x : Use W D H) (n i : ℕ) → Kept W D left H Alike Fits Rest x n → arm_answer W x.bus.masters (H.wants x.hosts) i ≡ answer x.book.armed (H.wants x.book.hosts) i
   answers_as x n i k = answers W x.bus.masters (H.wants x.hosts) i
       ∙ ap₂ (λ os a. answer os (H.wants a) i) (stands_armed W D left Alike Fits Rest x.bus x.book.armed x.book.side x.book.turn x.watch n k.stands) k.hosts
 
@@ -182,12 +186,12 @@ module _ (W : Script) (D : Side) (left : W.Cursor → ℕ) (H : Hosts W) (Alike 
     arms = let a = f.counts in let c = ap count f.tells in let d = k.arms in omega arith;
   }
 
-  keeps : (us : List Step) → Held us → (x : Use W D H) (n : ℕ) → Kept W D left H Alike Fits Rest x n → (m : ℕ) × Kept W D left H Alike Fits Rest (uses W D left H x us) m
+  pub keeps : (us : List Step) → Held us → (x : Use W D H) (n : ℕ) → Kept W D left H Alike Fits Rest x n → (m : ℕ) × Kept W D left H Alike Fits Rest (uses W D left H x us) m
   keeps [] h x n k = (n, k)
   keeps (arms i ∷ us) h x n k = keeps us h (does W D left H x (arms i)) n (keeps_arm x n i k)
   keeps (ticks t ∷ us) h x n k = keeps us h.1 (does W D left H x (ticks t)) (fine x n t h.0 k).due (keeps_tick x n t h.0 k)
 
-  tells_in : (us : List Step) → Held us → (x : Use W D H) (n : ℕ) → Kept W D left H Alike Fits Rest x n → any x.book.armed ≡ true → n < ticks_of us → x.told < (uses W D left H x us).told
+  pub tells_in : (us : List Step) → Held us → (x : Use W D H) (n : ℕ) → Kept W D left H Alike Fits Rest x n → any x.book.armed ≡ true → n < ticks_of us → x.told < (uses W D left H x us).told
   tells_in [] h x n k a l = absurd (omega arith)
   tells_in (arms i ∷ us) h x n k a l = tells_in us h (does W D left H x (arms i)) n (keeps_arm x n i k) (any_arm x.book.armed (H.wants x.book.hosts) i a) l
   tells_in (ticks t ∷ us) h x n k a l =
@@ -203,31 +207,3 @@ module _ (W : Script) (D : Side) (left : W.Cursor → ℕ) (H : Hosts W) (Alike 
       go (inl z) ih = let y = g in let c = ap count (fine x n t h.0 k).tells in omega arith
       go (inr (inl z)) ih = let y = ih (ap any z.1 ∙ a) (let q = z.0 in omega arith) in omega arith
       go (inr (inr z)) ih = cc
-
-  law_at : (x : Use W D H) (n : ℕ) → Kept W D left H Alike Fits Rest x n → Law W D left H x
-  law_at x n k =
-      let f = fine x n 0 (omega arith) k in
-      let st = k.stands in
-      record {
-        point = record {
-          hosts = k.hosts;
-          armed = stands_armed W D left Alike Fits Rest x.bus x.book.armed x.book.side x.book.turn x.watch n st;
-          side = stands_side W D left Alike Fits Rest x.bus x.book.armed x.book.side x.book.turn x.watch n st;
-          arms = k.arms;
-          out = stands_out W D left Alike Fits Rest x.bus x.book.armed x.book.side x.book.turn x.watch n st;
-        };
-        arming = λ i. answers_as x n i k;
-        ticking = record { tells = f.tells; loses = f.loses; stops = f.stops; spelled = f.spelled };
-        told = λ a us h l. tells_in us h x n k a (let z = stands_left W D left Alike Fits Rest x.bus x.book.armed x.book.side x.book.turn x.watch n st in omega arith);
-      }
-
-  -- the law, at every point of every use from the making
-  pub every_use : (cs : List (ℕ × ℕ)) (a : H.State) (s : D.S) → Clocks cs → Rest s → EveryUse W D left H (made W D H cs a s)
-  every_use cs a s c q us h =
-      let k = keeps us h (made W D H cs a s) ticks_of_turn (made_kept W D left H Alike Fits Rest cs a s c q) in
-      law_at (uses W D left H (made W D H cs a s) us) k.0 k.1
-
-  -- the invariant there
-  pub every_stands : (cs : List (ℕ × ℕ)) (a : H.State) (s : D.S) → Clocks cs → Rest s → (us : List Step) → Held us → let x = uses W D left H (made W D H cs a s) us in
-      (n : ℕ) × Stands W D left Alike Fits Rest x.bus x.book.armed x.book.side x.book.turn x.watch n
-  every_stands cs a s c q us h = let k = keeps us h (made W D H cs a s) ticks_of_turn (made_kept W D left H Alike Fits Rest cs a s c q) in (k.0, k.1.stands)
