@@ -1,4 +1,4 @@
--- The law at one point of a use, from the invariant of its machine and what that says of the next tick.
+-- The law at one point of a use, from the invariant there and what that says of the next tick.
 use Rattle.std.proofs.Common.{◌≡◌, ℕ, zero, suc, ◌+◌, ◌<◌, ◌≤◌, Bool, true, false, ltb, List, [], ◌∷◌, map, is_some, Some, None, Ok, Err, cond, refl, Option, Result, sym, ap, ◌∙◌, subst, ap₂, arith}
 use Rattle.std.specs.Prelude.{slice_index_or}
 use Rattle.std.proofs.lemmas.Bool.{le-ltb}
@@ -12,7 +12,6 @@ use Rattle.law.specs.Bank.{Bank, bank_list, any_true}
 use Rattle.law.specs.Book.{entry_is_armed, Turn, opened, Book, book_arm, contender_results, least_result}
 use Rattle.law.specs.Bus.{BusModel, HoldAnswers, arm_at, levels_at, told_at}
 use Rattle.law.specs.TransferResult.{TransferResult}
-use Rattle.law.specs.Monitor.{Monitor}
 use Rattle.law.specs.Use.{Call, runs, Use, event_at, marks_of, monitor_after, use_after_call, use_after, use_after_ticks, ticks_of_run, ticks_of_call, ticks_of, armed_now}
 use Rattle.law.specs.Law.{FirstDifference, true_count, Point, Loses, StopTells, TickLaw, Law}
 use Rattle.master.specs.MasterState.{quiet, lost, VerdictModel, master_step}
@@ -26,23 +25,16 @@ use Rattle.wire.specs.Wire.{signal}
 use Rattle.law.specs.Legal.{IsLegal}
 use Rattle.law.specs.Limits.{most_ticks, most_ticks_of_turn}
 use Rattle.law.proofs.Alone.PortsAsSide.{ports_side}
-use Rattle.law.proofs.Alone.SlotsRunOut.{slots_left}
-use Rattle.law.proofs.Alone.CursorsStayAlike.{Alike, cursor_laws}
-use Rattle.law.proofs.Alone.IdleBetweenTurns.{Idle}
-use Rattle.law.proofs.Machine.BusAsMachine.{verdicts, tick_event}
-use Rattle.law.proofs.Machine.InvariantSays.{Kept, stands_armed, stands_side, stands_out, stands_left, FineAt, fine, answers_as, tells_in}
+use Rattle.law.proofs.Machine.BusAsMachine.{verdicts}
 use Rattle.law.proofs.Machine.Arbitration.{at}
-use Rattle.law.proofs.Machine.BookOfMachine.{any, count, Use as LawUse, turned, tick_tells, book_tells as law_tells, ticks_of as steps_ticks}
-use Rattle.law.proofs.Bus.BookAsMachine.{booked, tasks, contenders, contenders_legal, turn_if, contests_of, tells_booked, arm_answers}
+use Rattle.law.proofs.Machine.BookOfMachine.{any, count, tick_tells}
+use Rattle.law.proofs.Bus.BookAsMachine.{tasks, contenders, contenders_legal, turn_if, contests_of}
 use Rattle.law.proofs.Bus.LeastStringLeads.{LegalIf, AllLegal, carry, lead, lead_legal, least_is, lexb_is, text, text_is}
 use Rattle.law.proofs.Bus.CountsOfRun.{somes, count_somes, any_somes, masters_armed, entries_armed, pulls_none, lost_at, placed_back, run_counts}
-use Rattle.law.proofs.Bus.HostsAsOne.{all_hosts, plays}
 use Rattle.law.proofs.Bus.RunIsItsTicks.{runs_are_ticks}
 use Rattle.law.proofs.Bus.Ranks.{carried_from, carried_at}
-use Rattle.law.proofs.Bus.CallsAsSteps.{reached}
 use Rattle.law.proofs.Bus.TickAsMachine.{masters_of, seen, levels_seen}
-use Rattle.law.proofs.Bus.UseAsMachine.{used_as, Good, event_seen, told_seen, arm_answer_is}
-use Rattle.law.proofs.Bus.MonitorAsMachine.{watched_as}
+use Rattle.law.proofs.Bus.UseKeepsInvariant.{Kept, Next, next, armed_as, side_as, marked_pull_none, few_left, answers_as, tells_as, later, watches_as, event_seen, told_seen, tells_in}
 
 pub legal_at : (l : List (Option TransferModel)) (i : ℕ) (t : TransferModel) → AllLegal l → at l i ≡ Some t → IsLegal t
 legal_at [] i t k e = cc
@@ -66,16 +58,9 @@ turn_is : (v : Turn) (l : List (Option TransferModel)) → v ≡ opened → turn
 turn_is v l h = grind arith
 
 module _ (hs : List HostBehaviour) (ds : List Behaviour) where
-  -- the invariant of a use
-  abbrev pub KeptAt : Use hs ds → ℕ → Type 0
-  KeptAt x n = Kept transfers (ports_side ds) slots_left (all_hosts hs) Alike IsLegal (Idle ds) (used_as hs ds x) n
-
-  module _ (x : Use hs ds) (g : Good hs ds x) (due : ℕ) (k : KeptAt x due) where
-    abbrev y : LawUse transfers (ports_side ds) (all_hosts hs)
-    y = used_as hs ds x
-
-    abbrev next : FineAt transfers (ports_side ds) slots_left (all_hosts hs) Alike IsLegal (Idle ds) cursor_laws (plays hs ds) y due 0
-    next = fine transfers (ports_side ds) slots_left (all_hosts hs) Alike IsLegal (Idle ds) cursor_laws (plays hs ds) y due 0 (omega arith) k
+  module _ (x : Use hs ds) (due : ℕ) (k : Kept hs ds x due) where
+    abbrev goes : Next hs ds x due k 0
+    goes = next hs ds x due k 0 (omega arith)
 
     abbrev b : Book hs ds
     b = x.book
@@ -87,26 +72,22 @@ module _ (hs : List HostBehaviour) (ds : List Behaviour) where
     legal = contenders_legal hs b.entries
 
     armed_same : armed_now hs ds x ≡ bank_list entry_is_armed hs b.entries
-    armed_same = sym (masters_armed hs x.bus.masters) ∙ (ap somes (stands_armed transfers (ports_side ds) slots_left Alike IsLegal (Idle ds) y.bus y.book.armed y.book.side y.book.turn y.watch due k.stands) ∙ entries_armed hs b.entries g.sound.kept)
+    armed_same = sym (masters_armed hs x.bus.masters) ∙ (ap somes (armed_as hs ds x due k) ∙ entries_armed hs b.entries k.sound.kept)
 
     tasks_counted : count (tasks hs b.entries) ≡ true_count (armed_now hs ds x)
-    tasks_counted = count_somes (tasks hs b.entries) ∙ ap true_count (entries_armed hs b.entries g.sound.kept ∙ sym armed_same)
+    tasks_counted = count_somes (tasks hs b.entries) ∙ ap true_count (entries_armed hs b.entries k.sound.kept ∙ sym armed_same)
 
     point : Point hs ds x
     point = record {
       hosts = k.hosts;
-      devices = λ e. placed_back hs ds ds x.bus.ports b.devices (stands_side transfers (ports_side ds) slots_left Alike IsLegal (Idle ds) y.bus y.book.armed y.book.side y.book.turn y.watch due k.stands e);
+      devices = λ e. placed_back hs ds ds x.bus.ports b.devices (side_as hs ds x due k e);
       armed = armed_same;
-      counts = k.arms ∙ ap (λ n. x.told + n) tasks_counted;
-      silent = λ e i m. pulls_none hs x.bus.masters i (stands_out transfers (ports_side ds) slots_left Alike IsLegal (Idle ds) y.bus y.book.armed y.book.side y.book.turn y.watch due k.stands (turn_some b.turn l e) i m);
+      counts = k.counts ∙ ap (λ n. x.told + n) tasks_counted;
+      silent = λ e i m. pulls_none hs x.bus.masters i (marked_pull_none hs ds x due k (turn_some b.turn l e) i m);
     }
 
-    abbrev later : Monitor
-    later = turned transfers x.watch (tasks hs b.entries) (turn_if b.turn l) (tick_event transfers (ports_side ds) (seen hs ds x.bus))
-
-    noted : monitor_after hs ds x.watch b (event_at hs ds x.bus) ≡ later
-    noted = watched_as hs ds x.watch b (event_at hs ds x.bus) g.sound
-        ∙ ap (λ e. turned transfers x.watch (tasks hs b.entries) (turn_if b.turn l) e) (event_seen hs ds x.bus)
+    noted : monitor_after hs ds x.watch b (event_at hs ds x.bus) ≡ later hs ds x due k
+    noted = watches_as hs ds x due k
 
     -- of two contenders, by their letters
     compared : (p q : TransferModel) (i j : ℕ) → at l i ≡ Some p → at l j ≡ Some q →
@@ -123,7 +104,7 @@ module _ (hs : List HostBehaviour) (ds : List Behaviour) where
     loses i e =
         let s = signal x.bus.wire (levels_at hs ds x.bus) in
         let v = subst (λ w. slice_index_or (verdicts transfers (masters_of hs x.bus.masters) (signal x.bus.wire w)) i quiet ≡ lost) (levels_seen hs ds x.bus) (lost_at hs x.bus.masters s i e) in
-        let z = next.loses i v in
+        let z = goes.loses i v in
         let o = turn_open b.turn l z.turn z.now in
         let here : at l i ≡ Some z.task = ap (λ m. at m i) o.1 ∙ z.contends in
         let best : lead ds b.devices l ≡ Some z.least = ap (lead ds b.devices) o.1 ∙ z.leads in
@@ -148,7 +129,7 @@ module _ (hs : List HostBehaviour) (ds : List Behaviour) where
     stops e o i own c =
         let mine = carried_from ds b.devices l i own (ap (λ cs. slice_index_or cs i None) (sym (contests_of hs ds b)) ∙ c) in
         let p = mine.0 in
-        let z = next.stops (sym (event_seen hs ds x.bus) ∙ e) l (turn_is b.turn l o) i p mine.1 in
+        let z = goes.stops (sym (event_seen hs ds x.bus) ∙ e) l (turn_is b.turn l o) i p mine.1 in
         record {
           unmarked = ap (λ ts. is_some (slice_index_or ts i None)) told_same ∙ z.unmarked;
           first = (
@@ -165,13 +146,13 @@ module _ (hs : List HostBehaviour) (ds : List Behaviour) where
     spells : event_at hs ds x.bus ≡ Stop → b.turn ≡ opened → (best : TransferResult ds) → least_result ds (contender_results hs ds b) ≡ Some best →
         (monitor_after hs ds x.watch b (event_at hs ds x.bus)).spelled ≡ best.letters
     spells e o best c =
-        let z = next.spelled (sym (event_seen hs ds x.bus) ∙ e) l (turn_is b.turn l o) in
+        let z = goes.spelled (sym (event_seen hs ds x.bus) ∙ e) l (turn_is b.turn l o) in
         let same : carry ds b.devices z.least ≡ best = let f = leads z.least z.leads in cc in
         ap (λ w. w.spelled) noted ∙ (z.whole ∙ (text_is ds b.devices z.least (lead_fits z.least z.leads) ∙ ap (λ u. u.letters) same))
 
     tick : TickLaw hs ds x
     tick = record {
-      tells = told_same ∙ (next.tells ∙ (ap (λ e. law_tells transfers (ports_side ds) slots_left (all_hosts hs) (booked hs ds b) e) (sym (event_seen hs ds x.bus)) ∙ sym (tells_booked hs ds b (event_at hs ds x.bus))));
+      tells = tells_as hs ds x due k;
       shows = λ a. refl;
       marks = marks_told hs x.bus.masters (signal x.bus.wire (levels_at hs ds x.bus));
       loses = loses;
@@ -180,7 +161,7 @@ module _ (hs : List HostBehaviour) (ds : List Behaviour) where
     }
 
     arm : (n : ℕ) → (arm_at hs ds x.bus n).0 ≡ (book_arm hs ds b n).0
-    arm n = arm_answer_is hs x.bus.masters n ∙ (answers_as transfers (ports_side ds) slots_left (all_hosts hs) Alike IsLegal (Idle ds) cursor_laws (plays hs ds) y due n k ∙ sym (arm_answers hs b.entries n g.sound.kept))
+    arm n = answers_as hs ds x due k n
 
     run : (n : ℕ) (a : ℕ → HoldAnswers ds) → n ≤ most_ticks → (r : RunModel) → (run_at hs ds x.bus n a).0 ≡ Ok r → ((use_after_call hs ds x (runs n a)).told ≡ x.told + r.outcomes) × (ticks_of_call hs ds x (runs n a) ≡ r.ticks)
     run n a h r e =
@@ -208,11 +189,9 @@ module _ (hs : List HostBehaviour) (ds : List Behaviour) where
     lively : any_true (armed_now hs ds x) ≡ true → (cs : List (Call hs ds)) → most_ticks_of_turn ≤ ticks_of hs ds x cs →
         x.told < (use_after hs ds x cs).told
     lively e cs h =
-        let w = reached hs ds x cs g in
-        let some : any (tasks hs b.entries) ≡ true = any_somes (tasks hs b.entries) ∙ (ap any_true (entries_armed hs b.entries g.sound.kept ∙ sym armed_same) ∙ e) in
-        let long : most_ticks_of_turn ≤ steps_ticks w.steps = subst (λ n. most_ticks_of_turn ≤ n) (sym w.in_ticks) h in
-        subst (λ u. x.told < u.told) (sym w.as_law) (tells_in transfers (ports_side ds) slots_left (all_hosts hs) Alike IsLegal (Idle ds) cursor_laws (plays hs ds) w.steps w.held y due k some
-        (let z = stands_left transfers (ports_side ds) slots_left Alike IsLegal (Idle ds) y.bus y.book.armed y.book.side y.book.turn y.watch due k.stands in omega arith))
+        let some : any (tasks hs b.entries) ≡ true =
+            any_somes (tasks hs b.entries) ∙ (ap any_true (entries_armed hs b.entries k.sound.kept ∙ sym armed_same) ∙ e) in
+        tells_in hs ds x due k some cs (let z = few_left hs ds x due k in omega arith)
 
     pub lawful : Law hs ds x
     lawful = record { point = point; tick = tick; arm = arm; run = run; run_leaves = run_leaves; runs_are_ticks = runs_are_ticks hs ds x; lively = lively }

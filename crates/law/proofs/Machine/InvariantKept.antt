@@ -19,7 +19,7 @@ use Rattle.law.proofs.FarSide.{Side, heard}
 use Rattle.law.proofs.Machine.BusAsMachine.{any_scl, verdicts, asked, taken, Bus, tick, tick_event, said, tick_verdicts}
 use Rattle.law.proofs.Machine.PhasesOfSlot.{lines, shown, rank, holds, early_lost, late_lost, Cell, looks, notes, no_verdict, early, late, cursors, opened, settled, some, Every, Timed, least, stay, advance, finished, claim_all, free_bus, claimed_bus, opened_bus, low_bus, fresh_bus, settled_bus, carries, held, Shape}
 use Rattle.law.proofs.Machine.Arbitration.{at, lead, Quiet, Laws}
-use Rattle.law.proofs.Machine.BookOfMachine.{Tasks, Hosts, count, any, nobody, disarm, is_lost, telling, tellings, begins, leader, wins, outcomes, leader_side, book, feed, book_tells, Spell, spell, fallen, watch, falses, marks_too, turned, noted, sees, Loses, Stopped, Spelled, Plays}
+use Rattle.law.proofs.Machine.BookOfMachine.{Tasks, count, any, nobody, disarm, is_lost, telling, tellings, begins, leader, wins, outcomes, leader_side, book, feed, book_tells, Spell, spell, fallen, watch, falses, marks_too, turned, noted, sees, Loses, Stopped, Spelled, Plays}
 use Rattle.law.proofs.Machine.EventForAll.{rank_top, every, least_below, via_verdicts}
 use Rattle.law.proofs.Machine.TickWhileLow.{low_stays, low_rises, low_ends}
 use Rattle.law.proofs.Machine.TickWhileHigh.{opened_stays, opened_falls, opened_ends, settled_stays, settled_falls, settled_ends}
@@ -144,31 +144,31 @@ module _ (D : Side) where
   early_behind symbol.RepeatedStart s true h e = cc
   early_behind symbol.RepeatedStart s false h e = cc
 
-module _ (W : Script) (D : Side) (left : W.Cursor → ℕ) (H : Hosts W) (Alike : W.Cursor → W.Cursor → Type 0) (Fits : W.Task → Type 0) (Rest : D.S → Type 0) (laws : Laws W left Alike) (plays : Plays W D left H Alike Fits Rest) where
+module _ (W : Script) (D : Side) (left : W.Cursor → ℕ) (Alike : W.Cursor → W.Cursor → Type 0) (Fits : W.Task → Type 0) (Rest : D.S → Type 0) (laws : Laws W left Alike) (plays : Plays W D left Alike Fits Rest) where
   -- what a tick to the bus u with the event e and the verdicts ks does; due: how many ticks are then left at the most until an outcome is told
-  pub record Fine (hs : H.State) (os : Tasks W) (s : D.S) (t : Option (Tasks W)) (w : Monitor) (n : ℕ) (u : Bus W D) (e : Event) (ks : List (VerdictModel W)) : Type 0 where
+  pub record Fine (os : Tasks W) (s : D.S) (t : Option (Tasks W)) (w : Monitor) (n : ℕ) (u : Bus W D) (e : Event) (ks : List (VerdictModel W)) : Type 0 where
     pub due : ℕ
-    pub stands : Stands W D left Alike Fits Rest u (feed W D left H (book W D H hs os s t) e).armed (feed W D left H (book W D H hs os s t) e).side (feed W D left H (book W D H hs os s t) e).turn
+    pub stands : Stands W D left Alike Fits Rest u (feed W D left (book W D os s t) e).armed (feed W D left (book W D os s t) e).side (feed W D left (book W D os s t) e).turn
         (sees W w os t e ks) due
-    pub tells : tellings W ks ≡ book_tells W D left H (book W D H hs os s t) e
-    pub counts : count (feed W D left H (book W D H hs os s t) e).armed + count (book_tells W D left H (book W D H hs os s t) e) ≡ count os
+    pub tells : tellings W ks ≡ book_tells W D left (book W D os s t) e
+    pub counts : count (feed W D left (book W D os s t) e).armed + count (book_tells W D left (book W D os s t) e) ≡ count os
     pub loses : (i : ℕ) → slice_index_or ks i quiet ≡ lost → Loses W D left t s w.marked (turned W w os t e) i
     pub stops : e ≡ Stop → (l : Tasks W) → t ≡ Some l → (i : ℕ) (p : W.Task) → at l i ≡ Some p → Stopped W D left l s w.marked (tellings W ks) i p
     pub spelled : e ≡ Stop → (l : Tasks W) → t ≡ Some l → Spelled W D left l s (turned W w os t e).spelled
-    pub falls : (1 ≤ count (book_tells W D left H (book W D H hs os s t) e)) ⊎ (((due < n) × ((feed W D left H (book W D H hs os s t) e).armed ≡ os)) ⊎ (any os ≡ false))
+    pub falls : (1 ≤ count (book_tells W D left (book W D os s t) e)) ⊎ (((due < n) × ((feed W D left (book W D os s t) e).armed ≡ os)) ⊎ (any os ≡ false))
 
   -- by what the tick is known to be
-  by_tick : (hs : H.State) (u : Bus W D) (os : Tasks W) (s : D.S) (t : Option (Tasks W)) (w : Monitor) (n h : ℕ) (u' : Bus W D) (ks : List (VerdictModel W)) →
-      tick W D u h ≡ u' → tick_verdicts W D u ≡ ks → Fine hs os s t w n u' (event_between u.wire.last u'.wire.last) ks → Fine hs os s t w n (tick W D u h) (tick_event W D u) (tick_verdicts W D u)
-  by_tick hs u os s t w n h u' ks a b f =
-      subst (λ x. Fine hs os s t w n (tick W D u h) (tick_event W D u) x) (sym b) (subst (λ x. Fine hs os s t w n x (event_between u.wire.last x.wire.last) ks) (sym a) f)
+  by_tick : (u : Bus W D) (os : Tasks W) (s : D.S) (t : Option (Tasks W)) (w : Monitor) (n h : ℕ) (u' : Bus W D) (ks : List (VerdictModel W)) →
+      tick W D u h ≡ u' → tick_verdicts W D u ≡ ks → Fine os s t w n u' (event_between u.wire.last u'.wire.last) ks → Fine os s t w n (tick W D u h) (tick_event W D u) (tick_verdicts W D u)
+  by_tick u os s t w n h u' ks a b f =
+      subst (λ x. Fine os s t w n (tick W D u h) (tick_event W D u) x) (sym b) (subst (λ x. Fine os s t w n x (event_between u.wire.last x.wire.last) ks) (sym a) f)
 
   -- a tick that tells nobody
-  silent : (hs : H.State) (os : Tasks W) (s : D.S) (t t' : Option (Tasks W)) (w w' : Monitor) (n n' : ℕ) (u : Bus W D) (e : Event) (ks : List (VerdictModel W)) →
-      feed W D left H (book W D H hs os s t) e ≡ book W D H hs os s t' → book_tells W D left H (book W D H hs os s t) e ≡ nobody os → (e ≡ Stop → ⊥) → sees W w os t e ks ≡ w' →
+  silent : (os : Tasks W) (s : D.S) (t t' : Option (Tasks W)) (w w' : Monitor) (n n' : ℕ) (u : Bus W D) (e : Event) (ks : List (VerdictModel W)) →
+      feed W D left (book W D os s t) e ≡ book W D os s t' → book_tells W D left (book W D os s t) e ≡ nobody os → (e ≡ Stop → ⊥) → sees W w os t e ks ≡ w' →
       tellings W ks ≡ nobody os → ((i : ℕ) → slice_index_or ks i quiet ≡ lost → Loses W D left t s w.marked (turned W w os t e) i) →
-      (n' < n) ⊎ (any os ≡ false) → Stands W D left Alike Fits Rest u os s t' w' n' → Fine hs os s t w n u e ks
-  silent hs os s t t' w w' n n' u e ks fe te ne se ts ls fs st = record {
+      (n' < n) ⊎ (any os ≡ false) → Stands W D left Alike Fits Rest u os s t' w' n' → Fine os s t w n u e ks
+  silent os s t t' w w' n n' u e ks fe te ne se ts ls fs st = record {
     due = n';
     stands = subst (λ b. Stands W D left Alike Fits Rest u b.armed b.side b.turn (sees W w os t e ks) n') (sym fe) (subst (λ x. Stands W D left Alike Fits Rest u os s t' x n') (sym se) st);
     tells = ts ∙ sym te;
@@ -182,18 +182,18 @@ module _ (W : Script) (D : Side) (left : W.Cursor → ℕ) (H : Hosts W) (Alike 
   no_loses : (t : Option (Tasks W)) (s : D.S) (v : List Bool) (w : Monitor) (cs : List (Cell W)) (i : ℕ) → slice_index_or (notes W (no_verdict W) cs) i quiet ≡ lost → Loses W D left t s v w i
   no_loses t s v w cs i h = let a = note_at W (no_verdict W) cs i h in let b : ◌≡◌ {A = VerdictModel W} quiet lost = a.2 in cc
 
-  abbrev pub Real : H.State → Bus W D → Tasks W → D.S → Option (Tasks W) → Monitor → ℕ → ℕ → Type 0
-  Real hs u os s t w n h = Fine hs os s t w n (tick W D u h) (tick_event W D u) (tick_verdicts W D u)
+  abbrev pub Real : Bus W D → Tasks W → D.S → Option (Tasks W) → Monitor → ℕ → ℕ → Type 0
+  Real u os s t w n h = Fine os s t w n (tick W D u h) (tick_event W D u) (tick_verdicts W D u)
 
   -- a tick with no verdict
-  plain : (hs : H.State) (u : Bus W D) (cs : List (Cell W)) (os : Tasks W) (s : D.S) (t t' : Option (Tasks W)) (w w' : Monitor) (n n' h : ℕ) (u' : Bus W D) (e : Event) →
+  plain : (u : Bus W D) (cs : List (Cell W)) (os : Tasks W) (s : D.S) (t t' : Option (Tasks W)) (w w' : Monitor) (n n' h : ℕ) (u' : Bus W D) (e : Event) →
       os ≡ cell_armeds W cs → tick W D u h ≡ u' → event_between u.wire.last u'.wire.last ≡ e → said W D u u'.wire.last ≡ notes W (no_verdict W) cs →
-      feed W D left H (book W D H hs os s t) e ≡ book W D H hs os s t' → book_tells W D left H (book W D H hs os s t) e ≡ nobody os → (e ≡ Stop → ⊥) → noted W (turned W w os t e) (notes W (no_verdict W) cs) ≡ w' →
-      (n' < n) ⊎ (any os ≡ false) → Stands W D left Alike Fits Rest u' os s t' w' n' → Real hs u os s t w n h
-  plain hs u cs os s t t' w w' n n' h u' e a q ev sd fe te ne se fs st =
-      by_tick hs u os s t w n h u' (notes W (no_verdict W) cs) q (via_verdicts W D u (notes W (no_verdict W) cs) u'.wire.last (ap (λ x. x.wire.last) q) sd)
-      (subst (λ x. Fine hs os s t w n u' x (notes W (no_verdict W) cs)) (sym ev)
-      (silent hs os s t t' w w' n n' u' e (notes W (no_verdict W) cs) fe te ne se
+      feed W D left (book W D os s t) e ≡ book W D os s t' → book_tells W D left (book W D os s t) e ≡ nobody os → (e ≡ Stop → ⊥) → noted W (turned W w os t e) (notes W (no_verdict W) cs) ≡ w' →
+      (n' < n) ⊎ (any os ≡ false) → Stands W D left Alike Fits Rest u' os s t' w' n' → Real u os s t w n h
+  plain u cs os s t t' w w' n n' h u' e a q ev sd fe te ne se fs st =
+      by_tick u os s t w n h u' (notes W (no_verdict W) cs) q (via_verdicts W D u (notes W (no_verdict W) cs) u'.wire.last (ap (λ x. x.wire.last) q) sd)
+      (subst (λ x. Fine os s t w n u' x (notes W (no_verdict W) cs)) (sym ev)
+      (silent os s t t' w w' n n' u' e (notes W (no_verdict W) cs) fe te ne se
       (tells_none W (no_verdict W) (λ x p. refl) cs ∙ ap nobody (sym a))
       (no_loses t s w.marked (turned W w os t e) cs) fs st))
 
@@ -218,16 +218,16 @@ module _ (W : Script) (D : Side) (left : W.Cursor → ℕ) (H : Hosts W) (Alike 
       silent_side : (i : ℕ) (p : W.Cursor) → at (begins W os) i ≡ Some p → Quiet W D p (D.begin s)
       silent_side i p e = let t = task_at W os i p e in subst (λ x. Quiet W D x (D.begin s)) t.2 (plays.quiet t.0 s (y i t.0 t.1) q)
 
-  tick_idle : (hs : H.State) (os : Tasks W) (s : D.S) (w : Monitor) (cs : List (Cell W)) (h : ℕ) → os ≡ cell_armeds W cs → Timed W cs → Holding W cs → Rest s → Ready Fits os → Real hs (free_bus W D cs s) os s None w ticks_of_turn h
-  tick_idle hs os s w cs h a t g q y = go (any os) refl
+  tick_idle : (os : Tasks W) (s : D.S) (w : Monitor) (cs : List (Cell W)) (h : ℕ) → os ≡ cell_armeds W cs → Timed W cs → Holding W cs → Rest s → Ready Fits os → Real (free_bus W D cs s) os s None w ticks_of_turn h
+  tick_idle os s w cs h a t g q y = go (any os) refl
     where
       goes : tick W D (free_bus W D cs s) h ≡ claimed_bus W D (claim_all W cs) s
       goes = free_claims W D cs s h (plays.calm s q)
 
-      go : (v : Bool) → any os ≡ v → Real hs (free_bus W D cs s) os s None w ticks_of_turn h
+      go : (v : Bool) → any os ≡ v → Real (free_bus W D cs s) os s None w ticks_of_turn h
       go true v =
-          plain hs (free_bus W D cs s) cs os s None (Some os) w (watch 0 false (falses os) (spell None [])) ticks_of_turn (ticks_of_turn - 1) h (claimed_bus W D (claim_all W cs) s) SteadyHigh a goes refl (idle_quiet W cs)
-          (ap (λ z. book W D H hs os s (cond z (Some os) None)) v) refl high_no
+          plain (free_bus W D cs s) cs os s None (Some os) w (watch 0 false (falses os) (spell None [])) ticks_of_turn (ticks_of_turn - 1) h (claimed_bus W D (claim_all W cs) s) SteadyHigh a goes refl (idle_quiet W cs)
+          (ap (λ z. book W D os s (cond z (Some os) None)) v) refl high_no
           (ap (λ z. noted W (cond z (watch 0 false (falses os) (spell None [])) w) (notes W (no_verdict W) cs)) v ∙ ap (λ x. watch 0 false x (spell None [])) (marks_none W (falses os) cs))
           (inl (omega arith))
           (claims (claimed_bus W D (claim_all W cs) s) os s os (falses os) (spell None []) (claim_all W cs) refl
@@ -242,36 +242,36 @@ module _ (W : Script) (D : Side) (left : W.Cursor → ℕ) (H : Hosts W) (Alike 
           })
           (subst (λ ps. Run W D left Alike (begins W os) (D.begin s) 0 most_letters ps (D.begin s)) (ap (begins W) a ∙ sym (cursors_claim W cs)) (first_run os s q y)) (record { armed = y; turn = y; rest = q }))
       go false v =
-          plain hs (free_bus W D cs s) cs os s None None w (noted W w (notes W (no_verdict W) cs)) ticks_of_turn ticks_of_turn h (free_bus W D (claim_all W cs) s) SteadyHigh a
+          plain (free_bus W D cs s) cs os s None None w (noted W w (notes W (no_verdict W) cs)) ticks_of_turn ticks_of_turn h (free_bus W D (claim_all W cs) s) SteadyHigh a
           (goes ∙ free_stays W D (claim_all W cs) s (alive_claim W cs ∙ ap any (sym a) ∙ v)) refl (idle_quiet W cs)
-          (ap (λ z. book W D H hs os s (cond z (Some os) None)) v) refl high_no
+          (ap (λ z. book W D os s (cond z (Some os) None)) v) refl high_no
           (ap (λ z. noted W (cond z (watch 0 false (falses os) (spell None [])) w) (notes W (no_verdict W) cs)) v)
           (inr v)
           (idle (free_bus W D (claim_all W cs) s) os s (noted W w (notes W (no_verdict W) cs)) (claim_all W cs) refl (a ∙ sym (armeds_claim W cs)) (timed_claim W cs t) (holding_claim W cs) q y)
 
-  tick_claims : (hs : H.State) (os : Tasks W) (s : D.S) (l : Tasks W) (v : List Bool) (sp : Spell) (cs : List (Cell W)) (h : ℕ) → (v ≡ marked W never l cs) × (sp ≡ spell None []) → Crew W l os cs →
-      Run W D left Alike (begins W l) (D.begin s) 0 most_letters (cursors W cs) (D.begin s) → Fit W D Fits Rest os l s → Real hs (claimed_bus W D cs s) os s (Some l) (watch 0 false v sp) (ticks_of_turn - 1) h
-  tick_claims hs os s l v sp cs h m g r y =
-      plain hs (claimed_bus W D cs s) cs os s (Some l) (Some l) (watch 0 false v sp) (watch 0 false v sp) (ticks_of_turn - 1) (ticks_of_turn - 2) h (opened_bus W D cs (D.begin s) 0) Start g.armed
+  tick_claims : (os : Tasks W) (s : D.S) (l : Tasks W) (v : List Bool) (sp : Spell) (cs : List (Cell W)) (h : ℕ) → (v ≡ marked W never l cs) × (sp ≡ spell None []) → Crew W l os cs →
+      Run W D left Alike (begins W l) (D.begin s) 0 most_letters (cursors W cs) (D.begin s) → Fit W D Fits Rest os l s → Real (claimed_bus W D cs s) os s (Some l) (watch 0 false v sp) (ticks_of_turn - 1) h
+  tick_claims os s l v sp cs h m g r y =
+      plain (claimed_bus W D cs s) cs os s (Some l) (Some l) (watch 0 false v sp) (watch 0 false v sp) (ticks_of_turn - 1) (ticks_of_turn - 2) h (opened_bus W D cs (D.begin s) 0) Start g.armed
       (claimed_starts W D cs s h g.timed g.living) refl (claimed_quiet W cs) refl refl start_no (ap (λ x. watch 0 false x sp) (marks_none W v cs)) (inl (omega arith))
       (begun (opened_bus W D cs (D.begin s) 0) os s l v sp cs 0 (ticks_of_turn - 2) refl (omega arith) (omega arith) m g r y)
 
-  tick_begun : (hs : H.State) (os : Tasks W) (s : D.S) (l : Tasks W) (v : List Bool) (sp : Spell) (cs : List (Cell W)) (e n h : ℕ) → e ≤ most_count → n + 2 + e ≡ ticks_of_turn →
+  tick_begun : (os : Tasks W) (s : D.S) (l : Tasks W) (v : List Bool) (sp : Spell) (cs : List (Cell W)) (e n h : ℕ) → e ≤ most_count → n + 2 + e ≡ ticks_of_turn →
       (v ≡ marked W never l cs) × (sp ≡ spell None []) → Crew W l os cs →
-      Run W D left Alike (begins W l) (D.begin s) 0 most_letters (cursors W cs) (D.begin s) → Fit W D Fits Rest os l s → Real hs (opened_bus W D cs (D.begin s) e) os s (Some l) (watch 0 false v sp) n h
-  tick_begun hs os s l v sp cs e n h b c m g r y = go (any_scl W (looks W (opened W e) cs)) refl
+      Run W D left Alike (begins W l) (D.begin s) 0 most_letters (cursors W cs) (D.begin s) → Fit W D Fits Rest os l s → Real (opened_bus W D cs (D.begin s) e) os s (Some l) (watch 0 false v sp) n h
+  tick_begun os s l v sp cs e n h b c m g r y = go (any_scl W (looks W (opened W e) cs)) refl
     where
-      go : (x : Bool) → any_scl W (looks W (opened W e) cs) ≡ x → Real hs (opened_bus W D cs (D.begin s) e) os s (Some l) (watch 0 false v sp) n h
+      go : (x : Bool) → any_scl W (looks W (opened W e) cs) ≡ x → Real (opened_bus W D cs (D.begin s) e) os s (Some l) (watch 0 false v sp) n h
       go false x =
           let k : e < most_count = elim (cases_lt e most_count) [
             | inl z ↦ z
             | inr z ↦ let y = opened_ends W cs e g.timed g.living z in cc
           ] in
-          plain hs (opened_bus W D cs (D.begin s) e) cs os s (Some l) (Some l) (watch 0 false v sp) (watch 0 false v sp) n (n - 1) h (opened_bus W D cs (D.begin s) (e + 1)) SteadyHigh g.armed
+          plain (opened_bus W D cs (D.begin s) e) cs os s (Some l) (Some l) (watch 0 false v sp) (watch 0 false v sp) n (n - 1) h (opened_bus W D cs (D.begin s) (e + 1)) SteadyHigh g.armed
           (opened_stays W D cs (D.begin s) e h g.timed g.living x) refl (opened_quiet W e cs) refl refl high_no (ap (λ x. watch 0 false x sp) (marks_none W v cs)) (inl (omega arith))
           (begun (opened_bus W D cs (D.begin s) (e + 1)) os s l v sp cs (e + 1) (n - 1) refl (omega arith) (omega arith) m g r y)
       go true x =
-          plain hs (opened_bus W D cs (D.begin s) e) cs os s (Some l) (Some l) (watch 0 false v sp) (watch 1 false v (fallen sp.latched sp.letters)) n (ticks_of_letter * most_letters) h (low_bus W D false cs (D.begin s) 0 0) Fall g.armed
+          plain (opened_bus W D cs (D.begin s) e) cs os s (Some l) (Some l) (watch 0 false v sp) (watch 1 false v (fallen sp.latched sp.letters)) n (ticks_of_letter * most_letters) h (low_bus W D false cs (D.begin s) 0 0) Fall g.armed
           (opened_falls W D cs (D.begin s) e h g.timed g.living x) refl (opened_fall_quiet W e cs) refl refl fall_no
           (ap (λ x. watch 1 false x (fallen sp.latched sp.letters)) (marks_none W v cs)) (inl (omega arith))
           (low (low_bus W D false cs (D.begin s) 0 0) os s l v (fallen sp.latched sp.letters) cs 0 most_letters (D.begin s) false 0 0 (ticks_of_letter * most_letters) refl (omega arith) (omega arith) (omega arith)
@@ -302,22 +302,22 @@ module _ (W : Script) (D : Side) (left : W.Cursor → ℕ) (H : Hosts W) (Alike 
         first = x.2;
       }
 
-  tick_low : (hs : H.State) (os : Tasks W) (s0 : D.S) (l : Tasks W) (v : List Bool) (sp : Spell) (cs : List (Cell W)) (k r : ℕ) (s : D.S) (d : Bool) (f e n h : ℕ) → f ≤ most_count → e ≤ most_count → n + e ≡ ticks_of_letter * r →
+  tick_low : (os : Tasks W) (s0 : D.S) (l : Tasks W) (v : List Bool) (sp : Spell) (cs : List (Cell W)) (k r : ℕ) (s : D.S) (d : Bool) (f e n h : ℕ) → f ≤ most_count → e ≤ most_count → n + e ≡ ticks_of_letter * r →
       (v ≡ marked W never l cs) × (sp ≡ spell None (spelled W D (begins W l) (D.begin s0) k)) → Crew W l os cs → Run W D left Alike (begins W l) (D.begin s0) k r (cursors W cs) s →
-      Fit W D Fits Rest os l s0 → Real hs (low_bus W D d cs s f e) os s0 (Some l) (watch (suc k) false v sp) n h
-  tick_low hs os s0 l v sp cs k r s d f e n h b b' c m g run y = go (held W D cs f e) refl
+      Fit W D Fits Rest os l s0 → Real (low_bus W D d cs s f e) os s0 (Some l) (watch (suc k) false v sp) n h
+  tick_low os s0 l v sp cs k r s d f e n h b b' c m g run y = go (held W D cs f e) refl
     where
       some_r : 1 ≤ r
       some_r = some_left W D left Alike laws (begins W l) (D.begin s0) k r cs s run g.living
 
-      go : (x : Bool) → held W D cs f e ≡ x → Real hs (low_bus W D d cs s f e) os s0 (Some l) (watch (suc k) false v sp) n h
+      go : (x : Bool) → held W D cs f e ≡ x → Real (low_bus W D d cs s f e) os s0 (Some l) (watch (suc k) false v sp) n h
       go true x =
           let z = some_r in
           let k' : e < most_count = elim (cases_lt e most_count) [
             | inl z ↦ z
             | inr z ↦ let q = low_ends W cs e g.timed z in absurd (grind (arith, tells))
           ] in
-          plain hs (low_bus W D d cs s f e) cs os s0 (Some l) (Some l) (watch (suc k) false v sp) (watch (suc k) false v sp) n (n - 1) h (low_bus W D (carries W D cs s) cs s f (e + 1)) SteadyLow g.armed
+          plain (low_bus W D d cs s f e) cs os s0 (Some l) (Some l) (watch (suc k) false v sp) (watch (suc k) false v sp) n (n - 1) h (low_bus W D (carries W D cs s) cs s f (e + 1)) SteadyLow g.armed
           (low_stays W D d cs s f e h x) refl (lowered_quiet W e cs) refl refl low_no (ap (λ x. watch (suc k) false x sp) (marks_none W v cs)) (inl (omega arith))
           (low (low_bus W D (carries W D cs s) cs s f (e + 1)) os s0 l v sp cs k r s (carries W D cs s) f (e + 1) (n - 1) refl b (omega arith) (omega arith) m g run y)
       go false x =
@@ -326,9 +326,9 @@ module _ (W : Script) (D : Side) (left : W.Cursor → ℕ) (H : Hosts W) (Alike 
           let o = carries W D cs s in
           let ks = notes W (early W o) cs in
           let u = low_bus W D d cs s f e in
-          by_tick hs u os s0 (Some l) (watch (suc k) false v sp) n h (fresh_bus W D o cs s) ks q
+          by_tick u os s0 (Some l) (watch (suc k) false v sp) n h (fresh_bus W D o cs s) ks q
           (via_verdicts W D u ks (lines true o) (ap (λ x. x.wire.last) q) (rising_verdicts W e o cs))
-          (silent hs os s0 (Some l) (Some l) (watch (suc k) false v sp) (watch (suc k) true (marked W (early_lost o) l cs) (spell (Some o) sp.letters)) n (ticks_of_letter * r - ticks_of_low) (fresh_bus W D o cs s) (Rise o) ks
+          (silent os s0 (Some l) (Some l) (watch (suc k) false v sp) (watch (suc k) true (marked W (early_lost o) l cs) (spell (Some o) sp.letters)) n (ticks_of_letter * r - ticks_of_low) (fresh_bus W D o cs s) (Rise o) ks
           refl refl (rise_no o) (ap (λ x. watch (suc k) true x (spell (Some o) sp.letters)) (ap (λ x. marks_too W x ks) m.0 ∙ marked_more W never (early_lost o) (early W o) (early_is W o) l cs g.within))
           (tells_none W (early W o) (early_mute W o) cs ∙ ap nobody (sym g.armed))
           (loses_here (spell (Some o) sp.letters) s0 l os v never (early_lost o) (early W o) (early_is W o) cs k r s m.0 g run (λ x e. refl)
@@ -336,30 +336,30 @@ module _ (W : Script) (D : Side) (left : W.Cursor → ℕ) (H : Hosts W) (Alike 
           (inl (omega arith))
           (rose (fresh_bus W D o cs s) os s0 l (marked W (early_lost o) l cs) (spell (Some o) sp.letters) cs k r s o (ticks_of_letter * r - ticks_of_low) refl refl (omega arith) (refl, ap (λ x. spell (Some o) x.letters) m.1) g run y))
 
-  tick_high : (hs : H.State) (os : Tasks W) (s0 : D.S) (l : Tasks W) (v : List Bool) (sp : Spell) (cs : List (Cell W)) (k r : ℕ) (s : D.S) (d : Bool) (c : Option Bool) (e n h : ℕ) → h ≤ most_count →
+  tick_high : (os : Tasks W) (s0 : D.S) (l : Tasks W) (v : List Bool) (sp : Spell) (cs : List (Cell W)) (k r : ℕ) (s : D.S) (d : Bool) (c : Option Bool) (e n h : ℕ) → h ≤ most_count →
       not (some W holds cs || D.pulls s) ≡ d → e ≤ most_count → n + ticks_of_low + 1 + e ≡ ticks_of_letter * suc r → (v ≡ marked W never l cs) × (fallen sp.latched sp.letters ≡ spell None
       (spelled W D (begins W l) (D.begin s0) (suc k))) × Spelt W D (begins W l) (D.begin s0) (suc k) sp s → Crew W l os cs →
       Run W D left Alike (begins W l) (D.begin s0) (suc k) r (cursors W (advance W (unwrap_or c true) cs)) (taken D c s) → Fit W D Fits Rest os l s0 →
-      Real hs (settled_bus W D d c cs s e) os s0 (Some l) (watch (suc k) true v sp) n h
-  tick_high hs os s0 l v sp cs k r s d c e n h hh j o z m g run y = go (any_scl W (looks W (settled W e) cs)) refl
+      Real (settled_bus W D d c cs s e) os s0 (Some l) (watch (suc k) true v sp) n h
+  tick_high os s0 l v sp cs k r s d c e n h hh j o z m g run y = go (any_scl W (looks W (settled W e) cs)) refl
     where
       some_r : 1 ≤ r
       some_r = some_left W D left Alike laws (begins W l) (D.begin s0) (suc k) r (advance W (unwrap_or c true) cs) (taken D c s) run (alive_advance W (unwrap_or c true) cs ∙ g.living)
 
-      go : (x : Bool) → any_scl W (looks W (settled W e) cs) ≡ x → Real hs (settled_bus W D d c cs s e) os s0 (Some l) (watch (suc k) true v sp) n h
+      go : (x : Bool) → any_scl W (looks W (settled W e) cs) ≡ x → Real (settled_bus W D d c cs s e) os s0 (Some l) (watch (suc k) true v sp) n h
       go false x =
           let k' : e < most_count = elim (cases_lt e most_count) [
             | inl z ↦ z
             | inr z ↦ let y = settled_ends W cs e g.timed g.living z in cc
           ] in
           let rr = some_r in
-          plain hs (settled_bus W D d c cs s e) cs os s0 (Some l) (Some l) (watch (suc k) true v sp) (watch (suc k) true v sp) n (n - 1) h (settled_bus W D d c cs s (e + 1)) SteadyHigh g.armed
+          plain (settled_bus W D d c cs s e) cs os s0 (Some l) (Some l) (watch (suc k) true v sp) (watch (suc k) true v sp) n (n - 1) h (settled_bus W D d c cs s (e + 1)) SteadyHigh g.armed
           (settled_stays W D d c cs s e h g.timed j x) (steady d) (ap (λ ev. verdicts W (looks W (settled W e) cs) (shown ev (counted_bit c ev) false)) (steady d) ∙ settled_quiet W e cs) refl refl
           high_no (ap (λ x. watch (suc k) true x sp) (marks_none W v cs)) (inl (omega arith))
           (high (settled_bus W D d c cs s (e + 1)) os s0 l v sp cs k r s d c (e + 1) (n - 1) refl j (omega arith) (omega arith) m g run y)
       go true x =
           let b = unwrap_or c true in
-          plain hs (settled_bus W D d c cs s e) cs os s0 (Some l) (Some l) (watch (suc k) true v sp) (watch (suc (suc k)) false v (fallen sp.latched sp.letters)) n (ticks_of_letter * r) h
+          plain (settled_bus W D d c cs s e) cs os s0 (Some l) (Some l) (watch (suc k) true v sp) (watch (suc (suc k)) false v (fallen sp.latched sp.letters)) n (ticks_of_letter * r) h
           (low_bus W D d (advance W b cs) (taken D c s) (asked c h) 0) Fall g.armed
           (settled_falls W D d c cs s e h g.timed j x) refl (settled_fall_quiet W c e cs) refl refl fall_no
           (ap (λ x. watch (suc (suc k)) false x (fallen sp.latched sp.letters)) (marks_none W v cs)) (inl (omega arith))
@@ -367,20 +367,20 @@ module _ (W : Script) (D : Side) (left : W.Cursor → ℕ) (H : Hosts W) (Alike 
           (asked_to c h hh) (omega arith) (omega arith) (m.0 ∙ sym (marked_advance W b l cs), m.1) (crew_advance W b l os cs g) run y)
 
   -- the tick after the rise: a bit
-  fresh_bit : (hs : H.State) (os : Tasks W) (s0 : D.S) (l : Tasks W) (v : List Bool) (sp : Spell) (cs : List (Cell W)) (k r : ℕ) (s : D.S) (b : Bool) (n h j : ℕ) →
+  fresh_bit : (os : Tasks W) (s0 : D.S) (l : Tasks W) (v : List Bool) (sp : Spell) (cs : List (Cell W)) (k r : ℕ) (s : D.S) (b : Bool) (n h j : ℕ) →
       carries W D cs s ≡ b → n + ticks_of_low ≡ ticks_of_letter * r → (v ≡ marked W (early_lost b) l cs) × (sp ≡ spell (Some b) (spelled W D (begins W l) (D.begin s0) k)) → Crew W l os cs →
       Run W D left Alike (begins W l) (D.begin s0) k r (cursors W cs) s → Fit W D Fits Rest os l s0 →
       least W cs ≡ j → j ≤ 4 → (j ≡ 1 → ⊥) → (j ≡ 2 → ⊥) → tick W D (fresh_bus W D b cs s) h ≡ settled_bus W D b (Some b) (stay W j cs) s 1 → tick_verdicts W D (fresh_bus W D b cs s) ≡ notes W (late W j) cs →
       not (some W holds (stay W j cs) || D.pulls s) ≡ b → Every W (λ x. (early_lost b x || late_lost j x) ≡ not (eqb (rank x) j)) cs →
-      Real hs (fresh_bus W D b cs s) os s0 (Some l) (watch (suc k) true v sp) n h
-  fresh_bit hs os s0 l v sp cs k zero s b n h j c z m g run y e j4 j1 j2 q f d ev = let a = some_left W D left Alike laws (begins W l) (D.begin s0) k 0 cs s run g.living in absurd (omega arith)
-  fresh_bit hs os s0 l v sp cs k (suc r) s b n h j c z m g run y e j4 j1 j2 q f d ev =
+      Real (fresh_bus W D b cs s) os s0 (Some l) (watch (suc k) true v sp) n h
+  fresh_bit os s0 l v sp cs k zero s b n h j c z m g run y e j4 j1 j2 q f d ev = let a = some_left W D left Alike laws (begins W l) (D.begin s0) k 0 cs s run g.living in absurd (omega arith)
+  fresh_bit os s0 l v sp cs k (suc r) s b n h j c z m g run y e j4 j1 j2 q f d ev =
       let u = fresh_bus W D b cs s in
       let u' = settled_bus W D b (Some b) (stay W j cs) s 1 in
       let ks = notes W (late W j) cs in
-      by_tick hs u os s0 (Some l) (watch (suc k) true v sp) n h u' ks q f
-      (subst (λ x. Fine hs os s0 (Some l) (watch (suc k) true v sp) n u' x ks) (sym (steady b))
-      (silent hs os s0 (Some l) (Some l) (watch (suc k) true v sp) (watch (suc k) true (marked W never l (stay W j cs)) sp) n (n - 2) u' SteadyHigh ks
+      by_tick u os s0 (Some l) (watch (suc k) true v sp) n h u' ks q f
+      (subst (λ x. Fine os s0 (Some l) (watch (suc k) true v sp) n u' x ks) (sym (steady b))
+      (silent os s0 (Some l) (Some l) (watch (suc k) true v sp) (watch (suc k) true (marked W never l (stay W j cs)) sp) n (n - 2) u' SteadyHigh ks
       refl refl high_no (ap (λ x. watch (suc k) true x sp) (ap (λ x. marks_too W x ks) m.0 ∙ marked_more W (early_lost b) (late_lost j) (late W j) (late_is W j) l cs g.within
       ∙ marked_stay W (λ x. early_lost b x || late_lost j x) j l cs ev))
       (tells_none W (late W j) (late_mute W j j1) cs ∙ ap nobody (sym g.armed))
@@ -399,20 +399,20 @@ module _ (W : Script) (D : Side) (left : W.Cursor → ℕ) (H : Hosts W) (Alike 
           (letter_bit D (lead W (cursors W cs)) s (λ z. j1 (sym at_lead ∙ z)) (λ z. j2 (sym at_lead ∙ z)) ∙ ap bit_letter (run_carries W D left Alike laws (begins W l) (D.begin s0) k (suc r) cs s run ∙ c)))
 
   -- a repeated Start
-  fresh_again : (hs : H.State) (os : Tasks W) (s0 : D.S) (l : Tasks W) (v : List Bool) (sp : Spell) (cs : List (Cell W)) (k r : ℕ) (s : D.S) (n h : ℕ) →
+  fresh_again : (os : Tasks W) (s0 : D.S) (l : Tasks W) (v : List Bool) (sp : Spell) (cs : List (Cell W)) (k r : ℕ) (s : D.S) (n h : ℕ) →
       carries W D cs s ≡ true → n + ticks_of_low ≡ ticks_of_letter * r → (v ≡ marked W (early_lost true) l cs) × (sp ≡ spell (Some true) (spelled W D (begins W l) (D.begin s0) k)) → Crew W l os cs →
       Run W D left Alike (begins W l) (D.begin s0) k r (cursors W cs) s → Fit W D Fits Rest os l s0 →
       least W cs ≡ 2 → tick W D (fresh_bus W D true cs s) h ≡ settled_bus W D false None (stay W 2 cs) (D.begin s) 0 → tick_verdicts W D (fresh_bus W D true cs s) ≡ notes W (late W 2) cs →
       Every W (λ x. (early_lost true x || late_lost 2 x) ≡ not (eqb (rank x) 2)) cs →
-      Real hs (fresh_bus W D true cs s) os s0 (Some l) (watch (suc k) true v sp) n h
-  fresh_again hs os s0 l v sp cs k zero s n h c z m g run y e q f ev = let a = some_left W D left Alike laws (begins W l) (D.begin s0) k 0 cs s run g.living in absurd (omega arith)
-  fresh_again hs os s0 l v sp cs k (suc r) s n h c z m g run y e q f ev =
+      Real (fresh_bus W D true cs s) os s0 (Some l) (watch (suc k) true v sp) n h
+  fresh_again os s0 l v sp cs k zero s n h c z m g run y e q f ev = let a = some_left W D left Alike laws (begins W l) (D.begin s0) k 0 cs s run g.living in absurd (omega arith)
+  fresh_again os s0 l v sp cs k (suc r) s n h c z m g run y e q f ev =
       let u = fresh_bus W D true cs s in
       let u' = settled_bus W D false None (stay W 2 cs) (D.begin s) 0 in
       let ks = notes W (late W 2) cs in
       let hr = holds_restart W cs e in
-      by_tick hs u os s0 (Some l) (watch (suc k) true v sp) n h u' ks q f
-      (silent hs os s0 (Some l) (Some l) (watch (suc k) true v sp) (watch (suc k) true (marked W never l (stay W 2 cs)) (spell None (sp.letters ++ (restart ∷ [])))) n (n - 1) u' Start ks
+      by_tick u os s0 (Some l) (watch (suc k) true v sp) n h u' ks q f
+      (silent os s0 (Some l) (Some l) (watch (suc k) true v sp) (watch (suc k) true (marked W never l (stay W 2 cs)) (spell None (sp.letters ++ (restart ∷ [])))) n (n - 1) u' Start ks
       refl refl start_no (ap (λ x. watch (suc k) true x (spell None (sp.letters ++ (restart ∷ [])))) (ap (λ x. marks_too W x ks) m.0
       ∙ marked_more W (early_lost true) (late_lost 2) (late W 2) (late_is W 2) l cs g.within ∙ marked_stay W (λ x. early_lost true x || late_lost 2 x) 2 l cs ev))
       (tells_none W (late W 2) (late_mute W 2 (omega arith)) cs ∙ ap nobody (sym g.armed))
@@ -439,14 +439,14 @@ module _ (W : Script) (D : Side) (left : W.Cursor → ℕ) (H : Hosts W) (Alike 
   none_at_stop x = grind arith
 
   -- the Stop
-  fresh_stop : (hs : H.State) (os : Tasks W) (s0 : D.S) (l : Tasks W) (v : List Bool) (sp : Spell) (cs : List (Cell W)) (k r : ℕ) (s : D.S) (n h : ℕ) →
+  fresh_stop : (os : Tasks W) (s0 : D.S) (l : Tasks W) (v : List Bool) (sp : Spell) (cs : List (Cell W)) (k r : ℕ) (s : D.S) (n h : ℕ) →
       (v ≡ marked W (early_lost false) l cs) × (sp ≡ spell (Some false) (spelled W D (begins W l) (D.begin s0) k)) → Crew W l os cs →
       Run W D left Alike (begins W l) (D.begin s0) k r (cursors W cs) s → Fit W D Fits Rest os l s0 →
       least W cs ≡ 1 → tick W D (fresh_bus W D false cs s) h ≡ free_bus W D (finished W cs) (D.finish s) → tick_verdicts W D (fresh_bus W D false cs s) ≡ notes W (late W 1) cs →
       Every W (λ x. (1 ≤ rank x) × (rank x ≤ 3)) cs →
-      Real hs (fresh_bus W D false cs s) os s0 (Some l) (watch (suc k) true v sp) n h
-  fresh_stop hs os s0 l v sp cs k r s n h m g run y e q f ev =
-      by_tick hs (fresh_bus W D false cs s) os s0 (Some l) (watch (suc k) true v sp) n h (free_bus W D (finished W cs) (D.finish s)) (notes W (late W 1) cs) q f
+      Real (fresh_bus W D false cs s) os s0 (Some l) (watch (suc k) true v sp) n h
+  fresh_stop os s0 l v sp cs k r s n h m g run y e q f ev =
+      by_tick (fresh_bus W D false cs s) os s0 (Some l) (watch (suc k) true v sp) n h (free_bus W D (finished W cs) (D.finish s)) (notes W (late W 1) cs) q f
       (record {
         due = ticks_of_turn;
         stands = idle (free_bus W D (finished W cs) (D.finish s)) (disarm os ts) (leader_side W D left (leader W D left l (D.begin s0)) (D.begin s0))
@@ -509,54 +509,54 @@ module _ (W : Script) (D : Side) (left : W.Cursor → ℕ) (H : Hosts W) (Alike 
           let b = contender W l cs g.within a.0 a.1.0 a.1.1 in
           stop_side W D left Alike laws l (D.begin s0) k r (cursors W cs) s run stops_here a.0 b.0 b.1
 
-  tick_rises : (hs : H.State) (os : Tasks W) (s0 : D.S) (l : Tasks W) (v : List Bool) (sp : Spell) (cs : List (Cell W)) (k r : ℕ) (s : D.S) (b : Bool) (n h j : ℕ) → least W cs ≡ j → j ≤ 4 →
+  tick_rises : (os : Tasks W) (s0 : D.S) (l : Tasks W) (v : List Bool) (sp : Spell) (cs : List (Cell W)) (k r : ℕ) (s : D.S) (b : Bool) (n h j : ℕ) → least W cs ≡ j → j ≤ 4 →
       carries W D cs s ≡ b → n + ticks_of_low ≡ ticks_of_letter * r → (v ≡ marked W (early_lost b) l cs) × (sp ≡ spell (Some b) (spelled W D (begins W l) (D.begin s0) k)) → Crew W l os cs →
       Run W D left Alike (begins W l) (D.begin s0) k r (cursors W cs) s → Fit W D Fits Rest os l s0 →
-      Shape W D cs s → Real hs (fresh_bus W D b cs s) os s0 (Some l) (watch (suc k) true v sp) n h
-  tick_rises hs os s0 l v sp cs k r s b n h zero e j4 c z m g run y q =
+      Shape W D cs s → Real (fresh_bus W D b cs s) os s0 (Some l) (watch (suc k) true v sp) n h
+  tick_rises os s0 l v sp cs k r s b n h zero e j4 c z m g run y q =
       let x = fresh_zero W D cs s h g.timed q e in
       let w = shaped W D 0 cs s (omega arith) e q in
       let o = holds_zero W cs e in
-      subst (λ b. (v ≡ marked W (early_lost b) l cs) × (sp ≡ spell (Some b) (spelled W D (begins W l) (D.begin s0) k)) → Real hs (fresh_bus W D b cs s) os s0 (Some l) (watch (suc k) true v sp) n h) (sym x.0 ∙ c)
-      (λ m. fresh_bit hs os s0 l v sp cs k r s false n h 0 x.0 z m g run y e j4 (omega arith) (omega arith) x.1 x.2 (cc)
+      subst (λ b. (v ≡ marked W (early_lost b) l cs) × (sp ≡ spell (Some b) (spelled W D (begins W l) (D.begin s0) k)) → Real (fresh_bus W D b cs s) os s0 (Some l) (watch (suc k) true v sp) n h) (sym x.0 ∙ c)
+      (λ m. fresh_bit os s0 l v sp cs k r s false n h 0 x.0 z m g run y e j4 (omega arith) (omega arith) x.1 x.2 (cc)
       (every W (λ x. (0 ≤ rank x) × (rank x ≤ 3)) (λ x. (early_lost false x || late_lost 0 x) ≡ not (eqb (rank x) 0)) (slot_low 0 (omega arith)) cs w.0)) m
-  tick_rises hs os s0 l v sp cs k r s b n h (suc zero) e j4 c z m g run y q =
+  tick_rises os s0 l v sp cs k r s b n h (suc zero) e j4 c z m g run y q =
       let x = fresh_end W D cs s h g.timed q e in
       let w = shaped W D 1 cs s (omega arith) e q in
-      subst (λ b. (v ≡ marked W (early_lost b) l cs) × (sp ≡ spell (Some b) (spelled W D (begins W l) (D.begin s0) k)) → Real hs (fresh_bus W D b cs s) os s0 (Some l) (watch (suc k) true v sp) n h) (sym x.0 ∙ c)
-      (λ m. fresh_stop hs os s0 l v sp cs k r s n h m g run y e x.1 x.2 w.0) m
-  tick_rises hs os s0 l v sp cs k r s b n h (suc (suc zero)) e j4 c z m g run y q =
+      subst (λ b. (v ≡ marked W (early_lost b) l cs) × (sp ≡ spell (Some b) (spelled W D (begins W l) (D.begin s0) k)) → Real (fresh_bus W D b cs s) os s0 (Some l) (watch (suc k) true v sp) n h) (sym x.0 ∙ c)
+      (λ m. fresh_stop os s0 l v sp cs k r s n h m g run y e x.1 x.2 w.0) m
+  tick_rises os s0 l v sp cs k r s b n h (suc (suc zero)) e j4 c z m g run y q =
       let x = fresh_restart W D cs s h g.timed q e in
       let w = shaped W D 2 cs s (omega arith) e q in
-      subst (λ b. (v ≡ marked W (early_lost b) l cs) × (sp ≡ spell (Some b) (spelled W D (begins W l) (D.begin s0) k)) → Real hs (fresh_bus W D b cs s) os s0 (Some l) (watch (suc k) true v sp) n h) (sym x.0 ∙ c)
-      (λ m. fresh_again hs os s0 l v sp cs k r s n h x.0 z m g run y e x.1 x.2 (every W (λ x. (2 ≤ rank x) × (rank x ≤ 3)) (λ x. (early_lost true x || late_lost 2 x) ≡ not (eqb (rank x) 2))
+      subst (λ b. (v ≡ marked W (early_lost b) l cs) × (sp ≡ spell (Some b) (spelled W D (begins W l) (D.begin s0) k)) → Real (fresh_bus W D b cs s) os s0 (Some l) (watch (suc k) true v sp) n h) (sym x.0 ∙ c)
+      (λ m. fresh_again os s0 l v sp cs k r s n h x.0 z m g run y e x.1 x.2 (every W (λ x. (2 ≤ rank x) × (rank x ≤ 3)) (λ x. (early_lost true x || late_lost 2 x) ≡ not (eqb (rank x) 2))
       (slot_high 2 (omega arith) (omega arith)) cs w.0)) m
-  tick_rises hs os s0 l v sp cs k r s b n h (suc (suc (suc zero))) e j4 c z m g run y q =
+  tick_rises os s0 l v sp cs k r s b n h (suc (suc (suc zero))) e j4 c z m g run y q =
       let x = fresh_one W D cs s h g.timed q e in
       let w = shaped W D 3 cs s (omega arith) e q in
       let f = w.1 in
       let o = holds_not W 3 cs (omega arith) e in
-      subst (λ b. (v ≡ marked W (early_lost b) l cs) × (sp ≡ spell (Some b) (spelled W D (begins W l) (D.begin s0) k)) → Real hs (fresh_bus W D b cs s) os s0 (Some l) (watch (suc k) true v sp) n h) (sym x.0 ∙ c)
-      (λ m. fresh_bit hs os s0 l v sp cs k r s true n h 3 x.0 z m g run y e j4 (omega arith) (omega arith) x.1 x.2 (cc)
+      subst (λ b. (v ≡ marked W (early_lost b) l cs) × (sp ≡ spell (Some b) (spelled W D (begins W l) (D.begin s0) k)) → Real (fresh_bus W D b cs s) os s0 (Some l) (watch (suc k) true v sp) n h) (sym x.0 ∙ c)
+      (λ m. fresh_bit os s0 l v sp cs k r s true n h 3 x.0 z m g run y e j4 (omega arith) (omega arith) x.1 x.2 (cc)
       (every W (λ x. (3 ≤ rank x) × (rank x ≤ 3)) (λ x. (early_lost true x || late_lost 3 x) ≡ not (eqb (rank x) 3)) (slot_high 3 (omega arith) (omega arith)) cs w.0)) m
-  tick_rises hs os s0 l v sp cs k r s b n h (suc (suc (suc (suc zero)))) e j4 c z m g run y q =
+  tick_rises os s0 l v sp cs k r s b n h (suc (suc (suc (suc zero)))) e j4 c z m g run y q =
       let x = fresh_listen W D (not (D.pulls s)) cs s h g.timed e refl in
       let w = every W (λ x. 4 ≤ rank x) (λ x. rank x ≡ 4) (λ x h. omega (arith, rank_top x)) cs (least_below W 4 cs (omega arith)) in
       let o = holds_not W 4 cs (omega arith) e in
-      subst (λ b. (v ≡ marked W (early_lost b) l cs) × (sp ≡ spell (Some b) (spelled W D (begins W l) (D.begin s0) k)) → Real hs (fresh_bus W D b cs s) os s0 (Some l) (watch (suc k) true v sp) n h) (sym x.0 ∙ c)
-      (λ m. fresh_bit hs os s0 l v sp cs k r s (not (D.pulls s)) n h 4 x.0 z m g run y e j4 (omega arith) (omega arith) x.1 x.2 (cc)
+      subst (λ b. (v ≡ marked W (early_lost b) l cs) × (sp ≡ spell (Some b) (spelled W D (begins W l) (D.begin s0) k)) → Real (fresh_bus W D b cs s) os s0 (Some l) (watch (suc k) true v sp) n h) (sym x.0 ∙ c)
+      (λ m. fresh_bit os s0 l v sp cs k r s (not (D.pulls s)) n h 4 x.0 z m g run y e j4 (omega arith) (omega arith) x.1 x.2 (cc)
       (every W (λ x. rank x ≡ 4) (λ x. (early_lost (not (D.pulls s)) x || late_lost 4 x) ≡ not (eqb (rank x) 4)) (slot_listen (not (D.pulls s))) cs w)) m
-  tick_rises hs os s0 l v sp cs k r s b n h (suc (suc (suc (suc (suc j))))) e j4 c z m g run y q = absurd (omega arith)
+  tick_rises os s0 l v sp cs k r s b n h (suc (suc (suc (suc (suc j))))) e j4 c z m g run y q = absurd (omega arith)
 
   -- a tick in any phase
-  pub tick_stands : (hs : H.State) (u : Bus W D) (os : Tasks W) (s : D.S) (t : Option (Tasks W)) (w : Monitor) (n h : ℕ) → h ≤ most_count → Stands W D left Alike Fits Rest u os s t w n → Real hs u os s t w n h
-  tick_stands hs _ _ _ _ _ _ h hh (idle u os s w cs e a t g q y) = subst (λ x. Real hs x os s None w ticks_of_turn h) (sym e) (tick_idle hs os s w cs h a t g q y)
-  tick_stands hs _ _ _ _ _ _ h hh (claims u os s l v sp cs e m g q y) = subst (λ x. Real hs x os s (Some l) (watch 0 false v sp) (ticks_of_turn - 1) h) (sym e) (tick_claims hs os s l v sp cs h m g q y)
-  tick_stands hs _ _ _ _ _ _ h hh (begun u os s l v sp cs k n e b c m g q y) = subst (λ x. Real hs x os s (Some l) (watch 0 false v sp) n h) (sym e) (tick_begun hs os s l v sp cs k n h b c m g q y)
-  tick_stands hs _ _ _ _ _ _ h hh (low u os s0 l v sp cs k r s d f f' n e b b' c m g q y) = subst (λ x. Real hs x os s0 (Some l) (watch (suc k) false v sp) n h) (sym e)
-      (tick_low hs os s0 l v sp cs k r s d f f' n h b b' c m g q y)
-  tick_stands hs _ _ _ _ _ _ h hh (rose u os s0 l v sp cs k r s b n e j c m g q y) =
-      subst (λ x. Real hs x os s0 (Some l) (watch (suc k) true v sp) n h) (sym e)
-      (tick_rises hs os s0 l v sp cs k r s b n h (least W cs) refl (alive_least W cs g.living) j c m g q y (run_shape W D left Alike laws (begins W l) (D.begin s0) k r cs s q g.living))
-  tick_stands hs _ _ _ _ _ _ h hh (high u os s0 l v sp cs k r s d c f n e j o z m g q y) = subst (λ x. Real hs x os s0 (Some l) (watch (suc k) true v sp) n h) (sym e)
-      (tick_high hs os s0 l v sp cs k r s d c f n h hh j o z m g q y)
+  pub tick_stands : (u : Bus W D) (os : Tasks W) (s : D.S) (t : Option (Tasks W)) (w : Monitor) (n h : ℕ) → h ≤ most_count → Stands W D left Alike Fits Rest u os s t w n → Real u os s t w n h
+  tick_stands _ _ _ _ _ _ h hh (idle u os s w cs e a t g q y) = subst (λ x. Real x os s None w ticks_of_turn h) (sym e) (tick_idle os s w cs h a t g q y)
+  tick_stands _ _ _ _ _ _ h hh (claims u os s l v sp cs e m g q y) = subst (λ x. Real x os s (Some l) (watch 0 false v sp) (ticks_of_turn - 1) h) (sym e) (tick_claims os s l v sp cs h m g q y)
+  tick_stands _ _ _ _ _ _ h hh (begun u os s l v sp cs k n e b c m g q y) = subst (λ x. Real x os s (Some l) (watch 0 false v sp) n h) (sym e) (tick_begun os s l v sp cs k n h b c m g q y)
+  tick_stands _ _ _ _ _ _ h hh (low u os s0 l v sp cs k r s d f f' n e b b' c m g q y) = subst (λ x. Real x os s0 (Some l) (watch (suc k) false v sp) n h) (sym e)
+      (tick_low os s0 l v sp cs k r s d f f' n h b b' c m g q y)
+  tick_stands _ _ _ _ _ _ h hh (rose u os s0 l v sp cs k r s b n e j c m g q y) =
+      subst (λ x. Real x os s0 (Some l) (watch (suc k) true v sp) n h) (sym e)
+      (tick_rises os s0 l v sp cs k r s b n h (least W cs) refl (alive_least W cs g.living) j c m g q y (run_shape W D left Alike laws (begins W l) (D.begin s0) k r cs s q g.living))
+  tick_stands _ _ _ _ _ _ h hh (high u os s0 l v sp cs k r s d c f n e j o z m g q y) = subst (λ x. Real x os s0 (Some l) (watch (suc k) true v sp) n h) (sym e)
+      (tick_high os s0 l v sp cs k r s d c f n h hh j o z m g q y)
