@@ -43,7 +43,8 @@ new_holding : (hs : List HostBehaviour) (ms : Bank HostedMaster hs) → Holding 
 new_holding [] ms = tt
 new_holding (h ∷ hs) ms = new_holding hs ms.1
 
-new_tasks : (hs : List HostBehaviour) (ms : Bank HostedMaster hs) → tasks hs (bank_map new_entry hs ms) ≡ cell_armeds transfers (new_cells hs ms)
+new_tasks : (hs : List HostBehaviour) (ms : Bank HostedMaster hs) →
+    tasks hs (bank_map new_entry hs ms) ≡ cell_armeds transfers (new_cells hs ms)
 new_tasks [] ms = refl
 new_tasks (h ∷ hs) ms = ap (λ l. None ∷ l) (new_tasks hs ms.1)
 
@@ -57,7 +58,8 @@ new_count : (hs : List HostBehaviour) (ms : Bank HostedMaster hs) → count (tas
 new_count [] ms = refl
 new_count (h ∷ hs) ms = new_count hs ms.1
 
-new_hosts : (hs : List HostBehaviour) (ms : Bank HostedMaster hs) → hosts_of hs (bank_map hosted_new hs ms) ≡ meanings hs (bank_map new_entry hs ms)
+new_hosts : (hs : List HostBehaviour) (ms : Bank HostedMaster hs) →
+    hosts_of hs (bank_map hosted_new hs ms) ≡ meanings hs (bank_map new_entry hs ms)
 new_hosts [] ms = refl
 new_hosts (h ∷ hs) ms = ap (λ r. (ms.0.meaning, r)) (new_hosts hs ms.1)
 
@@ -74,7 +76,8 @@ new_holds : (ds : List Behaviour) (ps : Bank PortModel ds) → longest_hold ds (
 new_holds [] ps = refl
 new_holds (b ∷ ds) ps = ap (λ n. max 0 n) (new_holds ds ps.1)
 
-module _ (hs : List HostBehaviour) (ds : List Behaviour) (ms : Bank HostedMaster hs) (ps : Bank PortModel ds) (clocks : ClocksInRange hs ms) where
+module _ (hs : List HostBehaviour) (ds : List Behaviour) (ms : Bank HostedMaster hs) (ps : Bank PortModel ds)
+    (clocks : ClocksInRange hs ms) where
   abbrev first : Use hs ds
   first = new_use hs ds ms ps
 

@@ -44,10 +44,12 @@ module _ (ds : List Behaviour) (d : Bank AddressedDevice ds) where
   pub text_is : (t : TransferModel) → IsLegal t → text t ≡ (carry t).letters
   text_is t k = (agrees t k).same_letters
 
-  pub lexb_is : (t u : TransferModel) → IsLegal t → IsLegal u → first_or_same (text t) (text u) ≡ first_or_same (carry t).letters (carry u).letters
+  pub lexb_is : (t u : TransferModel) → IsLegal t → IsLegal u →
+      first_or_same (text t) (text u) ≡ first_or_same (carry t).letters (carry u).letters
   lexb_is t u k l = ap₂ first_or_same (text_is t k) (text_is u l)
 
-  pub same_is : (t u : TransferModel) → IsLegal t → IsLegal u → same_string (text t) (text u) ≡ same_string (carry t).letters (carry u).letters
+  pub same_is : (t u : TransferModel) → IsLegal t → IsLegal u →
+      same_string (text t) (text u) ≡ same_string (carry t).letters (carry u).letters
   same_is t u k l = ap₂ same_string (text_is t k) (text_is u l)
 
   abbrev pub lead : List (Option TransferModel) → Option TransferModel
@@ -60,17 +62,20 @@ module _ (ds : List Behaviour) (d : Bank AddressedDevice ds) where
   carry_cond : (b : Bool) (t u : TransferModel) → carry (cond b t u) ≡ cond b (carry t) (carry u)
   carry_cond b t u = grind arith
 
-  pick_is : (t : TransferModel) (o : Option TransferModel) → IsLegal t → LegalIf o → carry (pick transfers (ports_side ds) slots_left t o side) ≡ first_of_two ds (carry t) (option_map carry o)
+  pick_is : (t : TransferModel) (o : Option TransferModel) → IsLegal t → LegalIf o →
+      carry (pick transfers (ports_side ds) slots_left t o side) ≡ first_of_two ds (carry t) (option_map carry o)
   pick_is t None k l = refl
   pick_is t (Some u) k l = carry_cond (first_or_same (text t) (text u)) t u ∙ ap (λ v. cond v (carry t) (carry u)) (lexb_is t u k l)
 
   pub least_is : (l : List (Option TransferModel)) → AllLegal l → least_result ds (carry_all l) ≡ option_map carry (lead l)
   least_is [] k = refl
   least_is (None ∷ l) k = least_is l k.1
-  least_is (Some t ∷ l) k = ap (λ o. Some (first_of_two ds (carry t) o)) (least_is l k.1) ∙ ap (λ c. Some c) (sym (pick_is t (lead l) k.0 (lead_legal l k.1)))
+  least_is (Some t ∷ l) k = ap (λ o. Some (first_of_two ds (carry t) o)) (least_is l k.1)
+      ∙ ap (λ c. Some c) (sym (pick_is t (lead l) k.0 (lead_legal l k.1)))
 
   told_one : (t u : TransferModel) → IsLegal t → IsLegal u →
-      cond (wins transfers (ports_side ds) slots_left t (Some u) side) (Some (task_outcome transfers (ports_side ds) slots_left t side)) None ≡ outcome_if_least ds (carry u) (Some (carry t))
+      cond (wins transfers (ports_side ds) slots_left t (Some u) side)
+      (Some (task_outcome transfers (ports_side ds) slots_left t side)) None ≡ outcome_if_least ds (carry u) (Some (carry t))
   told_one t u k l = ap₂ (λ v o. cond v (Some o) None) (same_is t u k l) (agrees t k).same_outcome
 
   pub outcomes_are : (l : List (Option TransferModel)) (q : Option TransferModel) → AllLegal l → LegalIf q →
@@ -83,7 +88,8 @@ module _ (ds : List Behaviour) (d : Bank AddressedDevice ds) where
   outcomes_are (Some t ∷ l) (Some u) k g = ap₂ ◌∷◌ (told_one t u k.0 g) (outcomes_are l (Some u) k.1 g)
 
   -- whom a stop tells
-  pub told_are : (l : List (Option TransferModel)) → AllLegal l → outcomes_of_turn ds (least_result ds (carry_all l)) (carry_all l) ≡ outcomes transfers (ports_side ds) slots_left l (lead l) side
+  pub told_are : (l : List (Option TransferModel)) → AllLegal l →
+      outcomes_of_turn ds (least_result ds (carry_all l)) (carry_all l) ≡ outcomes transfers (ports_side ds) slots_left l (lead l) side
   told_are l k = ap (λ q. outcomes_of_turn ds q (carry_all l)) (least_is l k) ∙ sym (outcomes_are l (lead l) k (lead_legal l k))
 
   -- the devices after it; without a contender nothing is carried

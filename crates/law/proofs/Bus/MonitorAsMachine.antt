@@ -25,15 +25,17 @@ falses_are (h ∷ hs) es = ap (λ l. false ∷ l) (falses_are hs es.1)
 
 module _ (hs : List HostBehaviour) (ds : List Behaviour) where
   opening_as : (w : Monitor) (b : Book hs ds) (v : Bool) →
-      cond (is_open (cond {A = Book hs ds} v (record { entries = bank_map entry_contending hs b.entries; devices = b.devices; turn = opened })
-      (record { entries = b.entries; devices = b.devices; turn = closed })).turn)
-      (new_monitor (bank_list (λ h x. false) hs b.entries)) w
-      ≡ cond v (watch 0 false (falses (tasks hs b.entries)) (spell None [])) w
+      cond (is_open (cond {A = Book hs ds} v
+          (record { entries = bank_map entry_contending hs b.entries; devices = b.devices; turn = opened })
+          (record { entries = b.entries; devices = b.devices; turn = closed })).turn)
+      (new_monitor (bank_list (λ h x. false) hs b.entries)) w ≡
+      cond v (watch 0 false (falses (tasks hs b.entries)) (spell None [])) w
   opening_as w b true = ap (λ l. watch 0 false l (spell None [])) (falses_are hs b.entries)
   opening_as w b false = refl
 
   closed_as : (w : Monitor) (b : Book hs ds) (e : Event) → Kept hs b.entries →
-      monitor_after hs ds w (record { entries = b.entries; devices = b.devices; turn = closed }) e ≡ turned transfers w (tasks hs b.entries) None e
+      monitor_after hs ds w (record { entries = b.entries; devices = b.devices; turn = closed }) e ≡
+          turned transfers w (tasks hs b.entries) None e
   closed_as w b SteadyHigh k = opening_as w b (any_true (bank_list entry_is_armed hs b.entries))
       ∙ ap (λ v. cond v (watch 0 false (falses (tasks hs b.entries)) (spell None [])) w) (sym (any_armed hs b.entries k))
   closed_as w b Fall k = refl
@@ -43,11 +45,13 @@ module _ (hs : List HostBehaviour) (ds : List Behaviour) where
   closed_as w b SteadyLow k = refl
 
   watched_parts : (w : Monitor) (b : Book hs ds) (v : Turn) (e : Event) → Kept hs b.entries →
-      monitor_after hs ds w (record { entries = b.entries; devices = b.devices; turn = v }) e ≡ turned transfers w (tasks hs b.entries) (turn_if v (contenders hs b.entries)) e
+      monitor_after hs ds w (record { entries = b.entries; devices = b.devices; turn = v }) e ≡
+          turned transfers w (tasks hs b.entries) (turn_if v (contenders hs b.entries)) e
   watched_parts w b opened e k = refl
   watched_parts w b closed e k = closed_as w b e k
 
-  pub watched_as : (w : Monitor) (b : Book hs ds) (e : Event) → Sound hs ds b → monitor_after hs ds w b e ≡ turned transfers w (tasks hs b.entries) (turn_if b.turn (contenders hs b.entries)) e
+  pub watched_as : (w : Monitor) (b : Book hs ds) (e : Event) → Sound hs ds b →
+      monitor_after hs ds w b e ≡ turned transfers w (tasks hs b.entries) (turn_if b.turn (contenders hs b.entries)) e
   watched_as w b e k = watched_parts w b b.turn e k.kept
 
 -- marks by verdicts
@@ -61,7 +65,8 @@ marked_as (h ∷ hs) ms s (v ∷ vs) = grind (arith, marked_as hs ms.1 s vs)
 told_one : (k : VerdictModel transfers) → told_outcome k ≡ telling transfers k
 told_one k = grind arith
 
-pub told_as : (hs : List HostBehaviour) (ms : Bank HostedMaster hs) (s : Signal) → bank_list (λ h. hosted_told h s) hs ms ≡ tellings transfers (verdicts transfers (masters_of hs ms) s)
+pub told_as : (hs : List HostBehaviour) (ms : Bank HostedMaster hs) (s : Signal) →
+    bank_list (λ h. hosted_told h s) hs ms ≡ tellings transfers (verdicts transfers (masters_of hs ms) s)
 told_as [] ms s = refl
 told_as (h ∷ hs) ms s = grind (arith, told_as hs)
 

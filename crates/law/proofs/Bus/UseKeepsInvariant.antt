@@ -1,5 +1,6 @@
 -- The invariant of a use of the bus: every arm and every tick keeps it, and so many ticks tell an outcome.
-use Rattle.std.proofs.Common.{◌≡◌, ℕ, zero, suc, ◌+◌, ◌<◌, ◌≤◌, cond, Bool, true, false, ◌||◌, ◌⊎◌, List, [], ◌∷◌, is_ok, is_some, Option, Result, sym, refl, ap, ◌∙◌, subst, ap₂, inl, inr, le_refl, arith}
+use Rattle.std.proofs.Common.{◌≡◌, ℕ, zero, suc, ◌+◌, ◌<◌, ◌≤◌, cond, Bool, true, false, ◌||◌, ◌⊎◌, List, [], ◌∷◌, is_ok, is_some, Option,
+    Result, sym, refl, ap, ◌∙◌, subst, ap₂, inl, inr, le_refl, arith}
 use Rattle.std.specs.Prelude.{slice_index_or}
 use Rattle.device.specs.Device.{Behaviour}
 use Rattle.host.specs.Host.{HostBehaviour}
@@ -10,7 +11,6 @@ use Rattle.wire.specs.declared.wire.Signal.{Signal}
 use Rattle.master.specs.declared.arming.Arming.{Arming}
 use Rattle.master.specs.Arming.{arming_after_arm}
 use Rattle.master.specs.Master.{HostedMaster, hosted_step, hosted_told}
-use Rattle.master.specs.MasterState.{MasterModel}
 use Rattle.master.specs.Script.{transfers}
 use Rattle.wire.specs.Event.{event_between}
 use Rattle.wire.specs.Wire.{signal}
@@ -26,11 +26,13 @@ use Rattle.law.proofs.Alone.IdleBetweenTurns.{Idle}
 use Rattle.law.proofs.Alone.PortsAsSide.{unheld, ports_side, idle_ports}
 use Rattle.law.proofs.Alone.SlotsRunOut.{slots_left}
 use Rattle.law.proofs.Machine.BusAsMachine.{Bus, verdicts, tick, tick_event, tick_verdicts}
-use Rattle.law.proofs.Machine.BookOfMachine.{count, any, answer, answer_if, armed_if, arm_book, task_of, armeds, pulling, arm_masters, tellings, tick_tells, turned, noted, Book as LawBook, feed, book_tells}
+use Rattle.law.proofs.Machine.BookOfMachine.{count, any, answer, answer_if, armed_if, arm_book, task_of, armeds, pulling, arm_masters,
+    arm_bus, tellings, tick_tells, turned, noted, Book as LawBook, feed, book_tells}
 use Rattle.law.proofs.Machine.Invariant.{Stands, arm_stands}
 use Rattle.law.proofs.Machine.InvariantKept.{Fine, tick_stands}
 use Rattle.law.proofs.Machine.InvariantSays.{stands_armed, stands_side, stands_out, stands_left}
-use Rattle.law.proofs.Bus.BookAsMachine.{booked, Sound, tasks, meanings, turn_if, arm_tasks, arm_meanings, arm_contenders, arm_answers, armed_sound, fed_booked, fed_sound, heard_after, tells_booked}
+use Rattle.law.proofs.Bus.BookAsMachine.{law_book, booked, armed_booked, Sound, tasks, meanings, arm_tasks, arm_meanings, arm_answers,
+    armed_sound, fed_booked, fed_sound, heard_after, tells_booked}
 use Rattle.law.proofs.Bus.CallsKeep.{calls_keep}
 use Rattle.law.proofs.Bus.HostsAsOne.{Meanings, want_of, wants_of, legal_wants, hears_all, plays}
 use Rattle.law.proofs.Bus.TickAsMachine.{masters_of, seen, LetGo, levels_seen, answer_at, answer_small, tick_seen, still_let_go}
@@ -141,25 +143,25 @@ module _ (hs : List HostBehaviour) (ds : List Behaviour) where
     answers_as i = arm_answer_is hs x.bus.masters i
         ∙ (ap₂ (λ os m. answer os (wants_of hs m) i) armed_as k.hosts ∙ sym (arm_answers hs x.book.entries i k.sound.kept))
 
+    arm_seen : (i : ℕ) →
+        seen hs ds (arm_at hs ds x.bus i).1 ≡ arm_bus transfers (ports_side ds) u (wants_of hs (hosts_of hs x.bus.masters)) i
+    arm_seen i = ap (λ ms. record { wire = u.wire; masters = ms; side = u.side; hold = u.hold }) (arm_masters_are hs x.bus.masters i)
+
+    arm_booked : (i : ℕ) → booked hs ds (book_arm hs ds x.book i).1 ≡
+        law_book hs ds (arm_book b.armed (wants_of hs (hosts_of hs x.bus.masters)) i) b.side b.turn
+    arm_booked i = armed_booked hs ds x.book i ∙ ap (λ m. law_book hs ds (arm_book b.armed (wants_of hs m) i) b.side b.turn) (sym k.hosts)
+
     armed_keeps : (i : ℕ) → Kept (use_after_call hs ds x (arms i)) n
     armed_keeps i =
         let m = hosts_of hs x.bus.masters in
         let es = x.book.entries in
-        let there = arm_stands transfers (ports_side ds) slots_left Alike IsLegal (Idle ds) (wants_of hs m) (legal_wants hs m) i
-            u b.armed b.side b.turn x.watch n k.stands in
-        let masters = sym (arm_masters_are hs x.bus.masters i) in
-        let armed = ap (λ m. arm_book b.armed (wants_of hs m) i) k.hosts ∙ sym (arm_tasks hs es i) in
-        let turn = ap (turn_if x.book.turn) (sym (arm_contenders hs es i)) in
         record {
           let_go = k.let_go;
           sound = armed_sound hs ds x.book i k.sound;
-          stands = subst (λ (z : Option (List (Option TransferModel))). Stands transfers (ports_side ds) slots_left Alike IsLegal (Idle ds)
-              (seen hs ds (arm_at hs ds x.bus i).1) (tasks hs (book_arm hs ds x.book i).1.entries) b.side z x.watch n) turn
-              (subst (λ (z : List (Option TransferModel)). Stands transfers (ports_side ds) slots_left Alike IsLegal (Idle ds)
-              (seen hs ds (arm_at hs ds x.bus i).1) z b.side b.turn x.watch n) armed
-              (subst (λ (z : List (MasterModel transfers)). Stands transfers (ports_side ds) slots_left Alike IsLegal (Idle ds)
-              (record { wire = u.wire; masters = z; side = u.side; hold = u.hold }) (arm_book b.armed (wants_of hs m) i) b.side b.turn x.watch n)
-              masters there));
+          stands = subst (λ z. StandsThere z (booked hs ds (book_arm hs ds x.book i).1) x.watch n) (sym (arm_seen i))
+              (subst (λ z. StandsThere (arm_bus transfers (ports_side ds) u (wants_of hs m) i) z x.watch n) (sym (arm_booked i))
+              (arm_stands transfers (ports_side ds) slots_left Alike IsLegal (Idle ds) (wants_of hs m) (legal_wants hs m) i
+              u b.armed b.side b.turn x.watch n k.stands));
           hosts = arm_hosts hs x.bus.masters i ∙ (k.hosts ∙ sym (arm_meanings hs es i));
           counts =
               let a = ap accepted_one (answers_as i ∙ arm_answers hs es i k.sound.kept) in
@@ -179,13 +181,15 @@ module _ (hs : List HostBehaviour) (ds : List Behaviour) where
 
     pub tells_as : told_at hs ds x.bus ≡ book_told hs ds x.book (event_at hs ds x.bus)
     tells_as = told_seen x.bus ∙ ((next 0 (omega arith)).tells
-        ∙ (ap (book_tells transfers (ports_side ds) slots_left b) (sym (event_seen x.bus)) ∙ sym (tells_booked hs ds x.book (event_at hs ds x.bus))))
+        ∙ (ap (book_tells transfers (ports_side ds) slots_left b) (sym (event_seen x.bus))
+        ∙ sym (tells_booked hs ds x.book (event_at hs ds x.bus))))
 
     abbrev pub later : Monitor
     later = turned transfers x.watch b.armed b.turn e
 
     pub watches_as : monitor_after hs ds x.watch x.book (event_at hs ds x.bus) ≡ later
-    watches_as = watched_as hs ds x.watch x.book (event_at hs ds x.bus) k.sound ∙ ap (turned transfers x.watch b.armed b.turn) (event_seen x.bus)
+    watches_as = watched_as hs ds x.watch x.book (event_at hs ds x.bus) k.sound
+        ∙ ap (turned transfers x.watch b.armed b.turn) (event_seen x.bus)
 
     notes_as : monitor_after_marks (monitor_after hs ds x.watch x.book (event_at hs ds x.bus)) (marks_of hs ds x.bus) ≡
         noted transfers later (tick_verdicts transfers (ports_side ds) u)
@@ -217,7 +221,8 @@ module _ (hs : List HostBehaviour) (ds : List Behaviour) where
         sound = fed_sound hs ds x.book (event_at hs ds x.bus) k.sound;
         stands = subst (λ z. StandsThere z (booked hs ds then.book) then.watch f.due) (sym (tick_seen hs ds x.bus a k.let_go))
             (subst (λ z. StandsThere (tick transfers (ports_side ds) u h) z then.watch f.due) (sym fed_as)
-            (subst (λ z. StandsThere (tick transfers (ports_side ds) u h) (feed transfers (ports_side ds) slots_left b e) z f.due) (sym notes_as)
+            (subst (λ z. StandsThere (tick transfers (ports_side ds) u h) (feed transfers (ports_side ds) slots_left b e) z f.due)
+            (sym notes_as)
             f.stands));
         hosts = step_hosts hs x.bus.masters (signal x.bus.wire (levels_at hs ds x.bus))
             ∙ (ap₂ (hears_all hs) k.hosts tells_as ∙ sym (heard_after hs ds x.book (event_at hs ds x.bus)));
