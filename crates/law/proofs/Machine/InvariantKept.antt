@@ -16,13 +16,14 @@ use Rattle.transfer.specs.Limits.{most_count}
 use Rattle.law.specs.Limits.{most_letters, ticks_of_low, ticks_of_letter, ticks_of_turn}
 use Rattle.law.specs.Letter.{Letter, stop, restart, bit_letter}
 use Rattle.law.specs.Monitor.{Monitor}
-use Rattle.law.proofs.FarSide.{Side, heard}
+use Rattle.law.proofs.FarSide.{Side, heard, letter}
 use Rattle.law.proofs.Machine.BusAsMachine.{any_scl, verdicts, asked, taken, Bus, tick, tick_event, said, tick_verdicts}
 use Rattle.law.proofs.Machine.PhasesOfSlot.{lines, shown, rank, holds, early_lost, late_lost, Cell, looks, notes, no_verdict, early, late,
     cursors, opened, settled, some, Every, Timed, least, stay, advance, finished, claim_all, free_bus, claimed_bus, opened_bus, low_bus,
     fresh_bus, settled_bus, carries, held, Shape}
 use Rattle.law.proofs.Machine.Arbitration.{at, lead, Quiet, Laws}
-use Rattle.law.proofs.Machine.BookOfMachine.{Tasks, count, any, nobody, disarm, is_lost, telling, tellings, begins, leader, wins, outcomes,
+use Rattle.law.proofs.Machine.BookOfMachine.{Tasks, count, any, nobody, disarm, is_lost, telling, tellings, begins, task_string, leader,
+    wins, outcomes,
     leader_side, Book, book, feed, book_tells, Spell, spell, fallen, watch, falses, marks_too, turned, noted, sees, Loses, Stopped,
     Spelled, Plays}
 use Rattle.law.proofs.Machine.EventForAll.{rank_top, every, least_below, via_verdicts}
@@ -447,225 +448,214 @@ module _ (W : Script) (D : Side) (left : W.Cursor → ℕ) (Alike : W.Cursor →
           (suc k) r (taken D c s) d (asked c h) 0 (ticks_of_letter * r) refl
           (asked_to c h hh) (omega arith) (omega arith) (m.0 ∙ sym (marked_advance W b l cs), m.1) (crew_advance W b l os cs g) run y)
 
-  -- the tick after the rise: a bit
-  fresh_bit : (os : Tasks W) (s0 : D.S) (l : Tasks W) (v : List Bool) (sp : Spell) (cs : List (Cell W)) (k r : ℕ) (s : D.S) (b : Bool)
-      (n h j : ℕ) →
-      carries W D cs s ≡ b → n + ticks_of_low ≡ ticks_of_letter * r →
-      (v ≡ marked W (early_lost b) l cs) × (sp ≡ spell (Some b) (text l s0 k)) → Crew W l os cs →
-      Slots l s0 k r (cursors W cs) s → Fits_in os l s0 →
-      least W cs ≡ j → j ≤ 4 → (j ≡ 1 → ⊥) →
-      (j ≡ 2 → ⊥) → tick W D (fresh_bus W D b cs s) h ≡ settled_bus W D b (Some b) (stay W j cs) s 1 →
-      tick_verdicts W D (fresh_bus W D b cs s) ≡ notes W (late W j) cs →
-      not (some W holds (stay W j cs) || D.pulls s) ≡ b → Every W (λ x. (early_lost b x || late_lost j x) ≡ not (eqb (rank x) j)) cs →
-      Real (fresh_bus W D b cs s) os s0 (Some l) (watch (suc k) true v sp) n h
-  fresh_bit os s0 l v sp cs k zero s b n h j c z m g run y e j4 j1 j2 q f d ev = let a =
-      some_left W D left Alike laws (begins W l) (D.begin s0) k 0 cs s run g.living in absurd (omega arith)
-  fresh_bit os s0 l v sp cs k (suc r) s b n h j c z m g run y e j4 j1 j2 q f d ev =
-      let u = fresh_bus W D b cs s in
-      let u' = settled_bus W D b (Some b) (stay W j cs) s 1 in
-      let ks = notes W (late W j) cs in
-      by_tick u os s0 (Some l) (watch (suc k) true v sp) n h u' ks q f
-      (subst (λ x. Fine os s0 (Some l) (watch (suc k) true v sp) n u' x ks) (sym (steady b))
-      (silent os s0 (Some l) (Some l) (watch (suc k) true v sp) (watch (suc k) true (marked W never l (stay W j cs)) sp) n
-      (n - 2) u' SteadyHigh ks
-      refl refl high_no (ap (λ x. watch (suc k) true x sp) (ap (λ x. marks_too W x ks) m.0
-      ∙ marked_more W (early_lost b) (late_lost j) (late W j) (late_is W j) l cs g.within
-      ∙ marked_stay W (λ x. early_lost b x || late_lost j x) j l cs ev))
-      (tells_none W (late W j) (late_mute W j j1) cs ∙ ap nobody (sym g.armed))
-      (loses_here sp s0 l os v (early_lost b) (late_lost j) (late W j) (late_is W j) cs k (suc r) s m.0 g run
-      (λ x a. late_new j x b (λ p. absurd (j2 p)) a)
-      (λ x a p. late_behind j x a (ap rank p ∙ leads W cs g.living ∙ e)))
-      (inl (omega arith))
-      (high u' os s0 l (marked W never l (stay W j cs)) sp (stay W j cs) k r s b (Some b) 1 (n - 2) refl d (omega arith) (omega arith)
-      (refl, spells_on, record { slots_gone = k; most = omega arith; letters = ap (λ x. x.letters) m.1; side = ap (λ x. x.side) run.runs })
-      (crew_stay W j l os cs e j4 g)
-      (subst (λ x. Slots l s0 (suc k) r (cursors W (advance W x (stay W j cs))) (D.bit s x)) c
-      (run_bit W D left Alike laws (begins W l) (D.begin s0) k r cs s j run g.living e j1 j2)) y)))
-    where
-      at_lead : rank (lead W (cursors W cs)) ≡ j
-      at_lead = leads W cs g.living ∙ e
-
-      spells_on : fallen sp.latched sp.letters ≡ spell None (text l s0 (suc k))
-      spells_on = ap (λ x. fallen x.latched x.letters) m.1
-          ∙ ap (spell None) (spells W D left Alike (begins W l) (D.begin s0) k (suc r) (cursors W cs) s (bit_letter b) run
-          (letter_bit D (lead W (cursors W cs)) s (λ z. j1 (sym at_lead ∙ z)) (λ z. j2 (sym at_lead ∙ z))
-          ∙ ap bit_letter (run_carries W D left Alike laws (begins W l) (D.begin s0) k (suc r) cs s run ∙ c)))
-
-  -- a repeated Start
-  fresh_again : (os : Tasks W) (s0 : D.S) (l : Tasks W) (v : List Bool) (sp : Spell) (cs : List (Cell W)) (k r : ℕ) (s : D.S) (n h : ℕ) →
-      carries W D cs s ≡ true → n + ticks_of_low ≡ ticks_of_letter * r →
-      (v ≡ marked W (early_lost true) l cs) × (sp ≡ spell (Some true) (text l s0 k)) → Crew W l os cs →
-      Slots l s0 k r (cursors W cs) s → Fits_in os l s0 →
-      least W cs ≡ 2 → tick W D (fresh_bus W D true cs s) h ≡ settled_bus W D false None (stay W 2 cs) (D.begin s) 0 →
-      tick_verdicts W D (fresh_bus W D true cs s) ≡ notes W (late W 2) cs →
-      Every W (λ x. (early_lost true x || late_lost 2 x) ≡ not (eqb (rank x) 2)) cs →
-      Real (fresh_bus W D true cs s) os s0 (Some l) (watch (suc k) true v sp) n h
-  fresh_again os s0 l v sp cs k zero s n h c z m g run y e q f ev = let a =
-      some_left W D left Alike laws (begins W l) (D.begin s0) k 0 cs s run g.living in absurd (omega arith)
-  fresh_again os s0 l v sp cs k (suc r) s n h c z m g run y e q f ev =
-      let u = fresh_bus W D true cs s in
-      let u' = settled_bus W D false None (stay W 2 cs) (D.begin s) 0 in
-      let ks = notes W (late W 2) cs in
-      let hr = holds_restart W cs e in
-      by_tick u os s0 (Some l) (watch (suc k) true v sp) n h u' ks q f
-      (silent os s0 (Some l) (Some l) (watch (suc k) true v sp)
-      (watch (suc k) true (marked W never l (stay W 2 cs)) (spell None (sp.letters ++ (restart ∷ [])))) n (n - 1) u' Start ks
-      refl refl start_no (ap (λ x. watch (suc k) true x (spell None (sp.letters ++ (restart ∷ [])))) (ap (λ x. marks_too W x ks) m.0
-      ∙ marked_more W (early_lost true) (late_lost 2) (late W 2) (late_is W 2) l cs g.within
-      ∙ marked_stay W (λ x. early_lost true x || late_lost 2 x) 2 l cs ev))
-      (tells_none W (late W 2) (late_mute W 2 (omega arith)) cs ∙ ap nobody (sym g.armed))
-      (loses_here (spell None (sp.letters ++ (restart ∷ []))) s0 l os v (early_lost true) (late_lost 2) (late W 2) (late_is W 2) cs k
-      (suc r) s m.0 g run (λ x a. late_new 2 x true (λ p. refl) a)
-      (λ x a p. late_behind 2 x a (ap rank p ∙ leads W cs g.living ∙ e)))
-      (inl (omega arith))
-      (high u' os s0 l (marked W never l (stay W 2 cs)) (spell None (sp.letters ++ (restart ∷ []))) (stay W 2 cs) k r (D.begin s) false None
-      0 (n - 1) refl (ap (λ x. not (x || D.pulls (D.begin s))) hr)
-      (omega arith) (omega arith) (
-        refl,
-        ap (spell None) (append-nil (sp.letters ++ (restart ∷ []))) ∙ ap (λ x. spell None (x.letters ++ (restart ∷ []))) m.1
-        ∙ ap (spell None) (spells W D left Alike (begins W l) (D.begin s0) k (suc r) (cursors W cs) s restart run
-            (letter_again D (lead W (cursors W cs)) s (leads W cs g.living ∙ e))),
-        record {
-          slots_gone = suc k;
-          most = omega arith;
-          letters = ap (λ x. x.letters ++ (restart ∷ [])) m.1
-              ∙ spells W D left Alike (begins W l) (D.begin s0) k (suc r) (cursors W cs) s restart run
-              (letter_again D (lead W (cursors W cs)) s (leads W cs g.living ∙ e));
-          side = ap (λ x. x.side) (run_again W D left Alike laws (begins W l) (D.begin s0) k r cs s run g.living e).runs;
-        },
-      ) (crew_stay W 2 l os cs e (omega arith) g)
-      (subst (λ x. Slots l s0 (suc k) r (cursors W (advance W x (stay W 2 cs))) (D.begin s)) c
-      (run_again W D left Alike laws (begins W l) (D.begin s0) k r cs s run g.living e)) y))
-
   none_at_stop : (x : Symbol) → late_lost 1 x ≡ false
   none_at_stop x = grind arith
 
-  -- the Stop
-  fresh_stop : (os : Tasks W) (s0 : D.S) (l : Tasks W) (v : List Bool) (sp : Spell) (cs : List (Cell W)) (k r : ℕ) (s : D.S) (n h : ℕ) →
-      (v ≡ marked W (early_lost false) l cs) × (sp ≡ spell (Some false) (text l s0 k)) → Crew W l os cs →
-      Slots l s0 k r (cursors W cs) s → Fits_in os l s0 →
-      least W cs ≡ 1 → tick W D (fresh_bus W D false cs s) h ≡ free_bus W D (finished W cs) (D.finish s) →
-      tick_verdicts W D (fresh_bus W D false cs s) ≡ notes W (late W 1) cs →
-      Every W (λ x. (1 ≤ rank x) × (rank x ≤ 3)) cs →
-      Real (fresh_bus W D false cs s) os s0 (Some l) (watch (suc k) true v sp) n h
-  fresh_stop os s0 l v sp cs k r s n h m g run y e q f ev =
-      by_tick (fresh_bus W D false cs s) os s0 (Some l) (watch (suc k) true v sp) n h (free_bus W D (finished W cs) (D.finish s))
-      (notes W (late W 1) cs) q f
-      (record {
-        due = ticks_of_turn;
-        stands = idle (free_bus W D (finished W cs) (D.finish s)) (disarm os ts)
-            (leader_side W D left (leader W D left l (D.begin s0)) (D.begin s0))
-            (sees W (watch (suc k) true v sp) os (Some l) Stop (notes W (late W 1) cs)) (finished W cs)
-            (ap (free_bus W D (finished W cs)) (sym side)) (ap₂ (disarm) g.armed (sym told_is) ∙ sym (armeds_finished W cs))
-            (timed_finished W cs g.timed) (holding_finished W cs) rested
-            (λ j p a. y.armed j p (disarmed os ts j p a).0);
-        tells = tells_end W cs ∙ told_is;
-        counts = ap₂ (λ a b. count (disarm a b) + count b) g.armed (sym told_is) ∙ counts_end W cs g.holding ∙ ap count (sym g.armed);
-        loses = λ i b. let w = note_at W (late W 1) cs i b in
-            let z : true ≡ false = sym (ap (is_lost W) w.2) ∙ (late_is W 1 (W.symbol w.0) w.0 ∙ none_at_stop (W.symbol w.0)) in cc;
-        stops = λ st l' el i p a.
-            let z : l ≡ l' = cc in
-            subst (λ x. Stopped W D left x s0 v (tellings W (notes W (late W 1) cs)) i p) z (stopped i p (ap (λ x. at x i) z ∙ a));
-        spelled = λ st l' el. let z : l ≡ l' = cc in subst (λ x. Spelled W D left x s0 (sp.letters ++ (stop ∷ []))) z spells_all;
-        falls = inl (let c = somebody_told W cs e in let d = ap count told_is in omega arith);
-      })
-    where
-      stops_here : rank (lead W (cursors W cs)) ≡ 1
-      stops_here = leads W cs g.living ∙ e
+  -- the tick after the rise in the slot k; r slots are left at the most behind it
+  module _ (os l : Tasks W) (s0 : D.S) (v : List Bool) (sp : Spell) (cs : List (Cell W)) (k r : ℕ) (s : D.S) (n h : ℕ)
+      (fit : n + ticks_of_low ≡ ticks_of_letter * suc r) (g : Crew W l os cs) (run : Slots l s0 k (suc r) (cursors W cs) s)
+      (y : Fits_in os l s0) where
+    abbrev before : Monitor
+    before = watch (suc k) true v sp
 
-      ts : List (Option W.Outcome)
-      ts = outcomes W D left l (leader W D left l (D.begin s0)) (D.begin s0)
+    -- where the slot carries b
+    abbrev Rises : Bool → Type 0
+    Rises b = (v ≡ marked W (early_lost b) l cs) × (sp ≡ spell (Some b) (text l s0 k)) →
+        Real (fresh_bus W D b cs s) os s0 (Some l) before n h
 
-      told_is : ending W (cursors W cs) ≡ outcomes W D left l (leader W D left l (D.begin s0)) (D.begin s0)
-      told_is = told_at_stop W D left Alike laws l (D.begin s0) k r cs s run stops_here g.within
+    led_by : (j : ℕ) → least W cs ≡ j → rank (lead W (cursors W cs)) ≡ j
+    led_by j e = leads W cs g.living ∙ e
 
-      stopped : (i : ℕ) (p : W.Task) → at l i ≡ Some p → Stopped W D left l s0 v (tellings W (notes W (late W 1) cs)) i p
-      stopped i p a =
-          let w : is_some (at (tellings W (notes W (late W 1) cs)) i) ≡ wins W D left p (leader W D left l (D.begin s0)) (D.begin s0) =
-          ap (λ x. is_some (at x i)) (tells_end W cs ∙ told_is)
-          ∙ outcome_at W D left (leader W D left l (D.begin s0)) (D.begin s0) l i p a in
+    spelt : (c : Letter) → letter D (lead W (cursors W cs)) s ≡ c → text l s0 k ++ (c ∷ []) ≡ text l s0 (suc k)
+    spelt c e = spells W D left Alike (begins W l) (D.begin s0) k (suc r) (cursors W cs) s c run e
+
+    loses_late : (sp' : Spell) (b : Bool) (j : ℕ) → v ≡ marked W (early_lost b) l cs → least W cs ≡ j → (j ≡ 2 → b ≡ true) →
+        (i : ℕ) → slice_index_or (notes W (late W j) cs) i quiet ≡ lost → Loses W D left (Some l) s0 v (watch (suc k) true v sp') i
+    loses_late sp' b j m e again =
+        loses_here sp' s0 l os v (early_lost b) (late_lost j) (late W j) (late_is W j) cs k (suc r) s m g run
+        (λ x a. late_new j x b again a) (λ x a p. late_behind j x a (ap rank p ∙ led_by j e))
+
+    marks_late : (b : Bool) (j : ℕ) → v ≡ marked W (early_lost b) l cs →
+        Every W (λ x. (early_lost b x || late_lost j x) ≡ not (eqb (rank x) j)) cs →
+        marks_too W v (notes W (late W j) cs) ≡ marked W never l (stay W j cs)
+    marks_late b j m ev =
+        ap (λ x. marks_too W x (notes W (late W j) cs)) m
+        ∙ marked_more W (early_lost b) (late_lost j) (late W j) (late_is W j) l cs g.within
+        ∙ marked_stay W (λ x. early_lost b x || late_lost j x) j l cs ev
+
+    fresh_bit : (b : Bool) (j : ℕ) → carries W D cs s ≡ b → least W cs ≡ j → j ≤ 4 → (j ≡ 1 → ⊥) → (j ≡ 2 → ⊥) →
+        tick W D (fresh_bus W D b cs s) h ≡ settled_bus W D b (Some b) (stay W j cs) s 1 →
+        tick_verdicts W D (fresh_bus W D b cs s) ≡ notes W (late W j) cs →
+        not (some W holds (stay W j cs) || D.pulls s) ≡ b →
+        Every W (λ x. (early_lost b x || late_lost j x) ≡ not (eqb (rank x) j)) cs → Rises b
+    fresh_bit b j c e j4 j1 j2 q f d ev m =
+        let u' = settled_bus W D b (Some b) (stay W j cs) s 1 in
+        let ks = notes W (late W j) cs in
+        by_tick (fresh_bus W D b cs s) os s0 (Some l) before n h u' ks q f
+        (subst (λ x. Fine os s0 (Some l) before n u' x ks) (sym (steady b))
+        (silent os s0 (Some l) (Some l) before (watch (suc k) true (marked W never l (stay W j cs)) sp) n (n - 2) u' SteadyHigh ks
+        refl refl high_no (ap (λ x. watch (suc k) true x sp) (marks_late b j m.0 ev))
+        (tells_none W (late W j) (late_mute W j j1) cs ∙ ap nobody (sym g.armed))
+        (loses_late sp b j m.0 e (λ p. absurd (j2 p))) (inl (omega arith))
+        (high u' os s0 l (marked W never l (stay W j cs)) sp (stay W j cs) k r s b (Some b) 1 (n - 2) refl d (omega arith) (omega arith)
+        (refl, spells_on, record { slots_gone = k; most = omega arith; letters = ap (λ x. x.letters) m.1; side = ap (λ x. x.side) run.runs
+        })
+        (crew_stay W j l os cs e j4 g)
+        (subst (λ x. Slots l s0 (suc k) r (cursors W (advance W x (stay W j cs))) (D.bit s x)) c
+        (run_bit W D left Alike laws (begins W l) (D.begin s0) k r cs s j run g.living e j1 j2)) y)))
+      where
+        spells_on : fallen sp.latched sp.letters ≡ spell None (text l s0 (suc k))
+        spells_on = ap (λ x. fallen x.latched x.letters) m.1 ∙ ap (spell None) (spelt (bit_letter b)
+            (letter_bit D (lead W (cursors W cs)) s (λ z. j1 (sym (led_by j e) ∙ z)) (λ z. j2 (sym (led_by j e) ∙ z))
+            ∙ ap bit_letter (run_carries W D left Alike laws (begins W l) (D.begin s0) k (suc r) cs s run ∙ c)))
+
+    fresh_again : carries W D cs s ≡ true → least W cs ≡ 2 →
+        tick W D (fresh_bus W D true cs s) h ≡ settled_bus W D false None (stay W 2 cs) (D.begin s) 0 →
+        tick_verdicts W D (fresh_bus W D true cs s) ≡ notes W (late W 2) cs →
+        Every W (λ x. (early_lost true x || late_lost 2 x) ≡ not (eqb (rank x) 2)) cs → Rises true
+    fresh_again c e q f ev m =
+        let u' = settled_bus W D false None (stay W 2 cs) (D.begin s) 0 in
+        let ks = notes W (late W 2) cs in
+        by_tick (fresh_bus W D true cs s) os s0 (Some l) before n h u' ks q f
+        (silent os s0 (Some l) (Some l) before (watch (suc k) true (marked W never l (stay W 2 cs)) sp') n (n - 1) u' Start ks
+        refl refl start_no (ap (λ x. watch (suc k) true x sp') (marks_late true 2 m.0 ev))
+        (tells_none W (late W 2) (late_mute W 2 (omega arith)) cs ∙ ap nobody (sym g.armed))
+        (loses_late sp' true 2 m.0 e (λ p. refl)) (inl (omega arith))
+        (high u' os s0 l (marked W never l (stay W 2 cs)) sp' (stay W 2 cs) k r (D.begin s) false None 0 (n - 1) refl
+        (ap (λ x. not (x || D.pulls (D.begin s))) (holds_restart W cs e)) (omega arith) (omega arith) (
+          refl,
+          ap (spell None) (append-nil sp'.letters ∙ spells_on),
           record {
-            unmarked = ap (λ x. is_some (at x i)) (tells_end W cs) ∙ tells_unmarked W l cs g.within ev i p a
-                ∙ ap (λ x. not (slice_index_or x i false)) (sym m.0);
-            least = λ h. wins_least W D left Alike laws l (D.begin s0) k r (cursors W cs) s run i p a (sym w ∙ h);
-            wins = λ h. w ∙ least_wins W D left Alike laws l (D.begin s0) k r (cursors W cs) s run i p a h;
-          }
+            slots_gone = suc k;
+            most = omega arith;
+            letters = spells_on;
+            side = ap (λ x. x.side) (run_again W D left Alike laws (begins W l) (D.begin s0) k r cs s run g.living e).runs;
+          },
+        ) (crew_stay W 2 l os cs e (omega arith) g)
+        (subst (λ x. Slots l s0 (suc k) r (cursors W (advance W x (stay W 2 cs))) (D.begin s)) c
+        (run_again W D left Alike laws (begins W l) (D.begin s0) k r cs s run g.living e)) y))
+      where
+        sp' : Spell
+        sp' = spell None (sp.letters ++ (restart ∷ []))
 
-      rested : Rest (leader_side W D left (leader W D left l (D.begin s0)) (D.begin s0))
-      rested =
-          let a = alive_at W cs g.living in
-          let b = contender W l cs g.within a.0 a.1.0 a.1.1 in
-          let x = stop_spells W D left Alike laws l (D.begin s0) k r (cursors W cs) s run stops_here a.0 b.0 b.1 in
-          let j = leader_in W D left l (D.begin s0) x.0 x.1 in
-          subst (λ o. Rest (leader_side W D left o (D.begin s0))) (sym x.1) (plays.rests x.0 s0 (y.turn j.0 x.0 j.1) y.rest)
+        spells_on : sp.letters ++ (restart ∷ []) ≡ text l s0 (suc k)
+        spells_on = ap (λ x. x.letters ++ (restart ∷ [])) m.1 ∙ spelt restart (letter_again D (lead W (cursors W cs)) s (led_by 2 e))
 
-      spells_all : Spelled W D left l s0 (sp.letters ++ (stop ∷ []))
-      spells_all =
-          let a = alive_at W cs g.living in
-          let b = contender W l cs g.within a.0 a.1.0 a.1.1 in
-          let x = stop_spells W D left Alike laws l (D.begin s0) k r (cursors W cs) s run stops_here a.0 b.0 b.1 in
-          record {
-            least = x.0;
-            leads = x.1;
-            whole = ap (λ x. x.letters ++ (stop ∷ [])) m.1 ∙ spells W D left Alike (begins W l) (D.begin s0) k r (cursors W cs) s stop run
-                (letter_stop D (lead W (cursors W cs)) s stops_here) ∙ x.2;
-          }
+    fresh_stop : least W cs ≡ 1 → tick W D (fresh_bus W D false cs s) h ≡ free_bus W D (finished W cs) (D.finish s) →
+        tick_verdicts W D (fresh_bus W D false cs s) ≡ notes W (late W 1) cs →
+        Every W (λ x. (1 ≤ rank x) × (rank x ≤ 3)) cs → Rises false
+    fresh_stop e q f ev m =
+        by_tick (fresh_bus W D false cs s) os s0 (Some l) before n h (free_bus W D (finished W cs) (D.finish s)) (notes W (late W 1) cs) q f
+        (record {
+          due = ticks_of_turn;
+          stands = idle (free_bus W D (finished W cs) (D.finish s)) (disarm os ts) (leader_side W D left first (D.begin s0))
+              (sees W before os (Some l) Stop (notes W (late W 1) cs)) (finished W cs)
+              (ap (free_bus W D (finished W cs)) (sym side)) (ap₂ disarm g.armed (sym told_is) ∙ sym (armeds_finished W cs))
+              (timed_finished W cs g.timed) (holding_finished W cs) rested
+              (λ j p a. y.armed j p (disarmed os ts j p a).0);
+          tells = tells_end W cs ∙ told_is;
+          counts = ap₂ (λ a b. count (disarm a b) + count b) g.armed (sym told_is) ∙ counts_end W cs g.holding ∙ ap count (sym g.armed);
+          loses = λ i b. let w = note_at W (late W 1) cs i b in
+              let z : true ≡ false = sym (ap (is_lost W) w.2) ∙ (late_is W 1 (W.symbol w.0) w.0 ∙ none_at_stop (W.symbol w.0)) in cc;
+          stops = λ st l' el i p a.
+              let z : l ≡ l' = cc in
+              subst (λ x. Stopped W D left x s0 v (tellings W (notes W (late W 1) cs)) i p) z (stopped i p (ap (λ x. at x i) z ∙ a));
+          spelled = λ st l' el. let z : l ≡ l' = cc in subst (λ x. Spelled W D left x s0 (sp.letters ++ (stop ∷ []))) z spells_all;
+          falls = inl (let c = somebody_told W cs e in let d = ap count told_is in omega arith);
+        })
+      where
+        stops_here : rank (lead W (cursors W cs)) ≡ 1
+        stops_here = led_by 1 e
 
-      side : leader_side W D left (leader W D left l (D.begin s0)) (D.begin s0) ≡ D.finish s
-      side =
-          let a = alive_at W cs g.living in
-          let b = contender W l cs g.within a.0 a.1.0 a.1.1 in
-          stop_side W D left Alike laws l (D.begin s0) k r (cursors W cs) s run stops_here a.0 b.0 b.1
+        first : Option W.Task
+        first = leader W D left l (D.begin s0)
+
+        ts : List (Option W.Outcome)
+        ts = outcomes W D left l first (D.begin s0)
+
+        told_is : ending W (cursors W cs) ≡ ts
+        told_is = told_at_stop W D left Alike laws l (D.begin s0) k (suc r) cs s run stops_here g.within
+
+        stopped : (i : ℕ) (p : W.Task) → at l i ≡ Some p → Stopped W D left l s0 v (tellings W (notes W (late W 1) cs)) i p
+        stopped i p a =
+            let w : is_some (at (tellings W (notes W (late W 1) cs)) i) ≡ wins W D left p first (D.begin s0) =
+                ap (λ x. is_some (at x i)) (tells_end W cs ∙ told_is) ∙ outcome_at W D left first (D.begin s0) l i p a in
+            record {
+              unmarked = ap (λ x. is_some (at x i)) (tells_end W cs) ∙ tells_unmarked W l cs g.within ev i p a
+                  ∙ ap (λ x. not (slice_index_or x i false)) (sym m.0);
+              least = λ h. wins_least W D left Alike laws l (D.begin s0) k (suc r) (cursors W cs) s run i p a (sym w ∙ h);
+              wins = λ h. w ∙ least_wins W D left Alike laws l (D.begin s0) k (suc r) (cursors W cs) s run i p a h;
+            }
+
+        -- a contender that shows the stop, and the leader
+        one : (i : ℕ) × ((q : W.Task) × (at l i ≡ Some q))
+        one = let a = alive_at W cs g.living in (a.0, contender W l cs g.within a.0 a.1.0 a.1.1)
+
+        led : (x : W.Task) × (first ≡ Some x) × (text l s0 (suc k) ≡ task_string W D left x (D.begin s0))
+        led = stop_spells W D left Alike laws l (D.begin s0) k (suc r) (cursors W cs) s run stops_here one.0 one.1.0 one.1.1
+
+        rested : Rest (leader_side W D left first (D.begin s0))
+        rested = let j = leader_in W D left l (D.begin s0) led.0 led.1 in
+            subst (λ o. Rest (leader_side W D left o (D.begin s0))) (sym led.1) (plays.rests led.0 s0 (y.turn j.0 led.0 j.1) y.rest)
+
+        spells_all : Spelled W D left l s0 (sp.letters ++ (stop ∷ []))
+        spells_all = record {
+          least = led.0;
+          leads = led.1;
+          whole = ap (λ x. x.letters ++ (stop ∷ [])) m.1 ∙ spelt stop (letter_stop D (lead W (cursors W cs)) s stops_here) ∙ led.2;
+        }
+
+        side : leader_side W D left first (D.begin s0) ≡ D.finish s
+        side = stop_side W D left Alike laws l (D.begin s0) k (suc r) (cursors W cs) s run stops_here one.0 one.1.0 one.1.1
+
+    -- b is what the slot carries, so it is what the least symbol shows
+    rises_as : (b c : Bool) → carries W D cs s ≡ b → carries W D cs s ≡ c → Rises c → Rises b
+    rises_as b c e f z = subst Rises (sym f ∙ e) z
+
+    rises : (b : Bool) → carries W D cs s ≡ b → Shape W D cs s → (j : ℕ) → least W cs ≡ j → j ≤ 4 → Rises b
+    rises b c q zero e j4 =
+        let x = fresh_zero W D cs s h g.timed q e in
+        let w = shaped W D 0 cs s (omega arith) e q in
+        let o = holds_zero W cs e in
+        rises_as b false c x.0 (fresh_bit false 0 x.0 e j4 (omega arith) (omega arith) x.1 x.2 (cc)
+        (every W (λ x. (0 ≤ rank x) × (rank x ≤ 3)) (λ x. (early_lost false x || late_lost 0 x) ≡ not (eqb (rank x) 0))
+        (slot_low 0 (omega arith)) cs w.0))
+    rises b c q (suc zero) e j4 =
+        let x = fresh_end W D cs s h g.timed q e in
+        let w = shaped W D 1 cs s (omega arith) e q in
+        rises_as b false c x.0 (fresh_stop e x.1 x.2 w.0)
+    rises b c q (suc (suc zero)) e j4 =
+        let x = fresh_restart W D cs s h g.timed q e in
+        let w = shaped W D 2 cs s (omega arith) e q in
+        rises_as b true c x.0 (fresh_again x.0 e x.1 x.2
+        (every W (λ x. (2 ≤ rank x) × (rank x ≤ 3)) (λ x. (early_lost true x || late_lost 2 x) ≡ not (eqb (rank x) 2))
+        (slot_high 2 (omega arith) (omega arith)) cs w.0))
+    rises b c q (suc (suc (suc zero))) e j4 =
+        let x = fresh_one W D cs s h g.timed q e in
+        let w = shaped W D 3 cs s (omega arith) e q in
+        let f = w.1 in
+        let o = holds_not W 3 cs (omega arith) e in
+        rises_as b true c x.0 (fresh_bit true 3 x.0 e j4 (omega arith) (omega arith) x.1 x.2 (cc)
+        (every W (λ x. (3 ≤ rank x) × (rank x ≤ 3)) (λ x. (early_lost true x || late_lost 3 x) ≡ not (eqb (rank x) 3))
+        (slot_high 3 (omega arith) (omega arith)) cs w.0))
+    rises b c q (suc (suc (suc (suc zero)))) e j4 =
+        let d = not (D.pulls s) in
+        let x = fresh_listen W D d cs s h g.timed e refl in
+        let w = every W (λ x. 4 ≤ rank x) (λ x. rank x ≡ 4) (λ x h. omega (arith, rank_top x)) cs (least_below W 4 cs (omega arith)) in
+        let o = holds_not W 4 cs (omega arith) e in
+        rises_as b d c x.0 (fresh_bit d 4 x.0 e j4 (omega arith) (omega arith) x.1 x.2 (cc)
+        (every W (λ x. rank x ≡ 4) (λ x. (early_lost d x || late_lost 4 x) ≡ not (eqb (rank x) 4)) (slot_listen d) cs w))
+    rises b c q (suc (suc (suc (suc (suc j))))) e j4 = absurd (omega arith)
 
   tick_rises : (os : Tasks W) (s0 : D.S) (l : Tasks W) (v : List Bool) (sp : Spell) (cs : List (Cell W)) (k r : ℕ) (s : D.S) (b : Bool)
-      (n h j : ℕ) → least W cs ≡ j → j ≤ 4 →
-      carries W D cs s ≡ b → n + ticks_of_low ≡ ticks_of_letter * r →
+      (n h : ℕ) → carries W D cs s ≡ b → n + ticks_of_low ≡ ticks_of_letter * r →
       (v ≡ marked W (early_lost b) l cs) × (sp ≡ spell (Some b) (text l s0 k)) → Crew W l os cs →
-      Slots l s0 k r (cursors W cs) s → Fits_in os l s0 →
-      Shape W D cs s → Real (fresh_bus W D b cs s) os s0 (Some l) (watch (suc k) true v sp) n h
-  tick_rises os s0 l v sp cs k r s b n h zero e j4 c z m g run y q =
-      let x = fresh_zero W D cs s h g.timed q e in
-      let w = shaped W D 0 cs s (omega arith) e q in
-      let o = holds_zero W cs e in
-      subst (λ b. (v ≡ marked W (early_lost b) l cs) × (sp ≡ spell (Some b) (text l s0 k)) →
-      Real (fresh_bus W D b cs s) os s0 (Some l) (watch (suc k) true v sp) n h) (sym x.0 ∙ c)
-      (λ m. fresh_bit os s0 l v sp cs k r s false n h 0 x.0 z m g run y e j4 (omega arith) (omega arith) x.1 x.2 (cc)
-      (every W (λ x. (0 ≤ rank x) × (rank x ≤ 3)) (λ x. (early_lost false x || late_lost 0 x) ≡ not (eqb (rank x) 0))
-      (slot_low 0 (omega arith)) cs w.0)) m
-  tick_rises os s0 l v sp cs k r s b n h (suc zero) e j4 c z m g run y q =
-      let x = fresh_end W D cs s h g.timed q e in
-      let w = shaped W D 1 cs s (omega arith) e q in
-      subst (λ b. (v ≡ marked W (early_lost b) l cs) × (sp ≡ spell (Some b) (text l s0 k)) →
-      Real (fresh_bus W D b cs s) os s0 (Some l) (watch (suc k) true v sp) n h) (sym x.0 ∙ c)
-      (λ m. fresh_stop os s0 l v sp cs k r s n h m g run y e x.1 x.2 w.0) m
-  tick_rises os s0 l v sp cs k r s b n h (suc (suc zero)) e j4 c z m g run y q =
-      let x = fresh_restart W D cs s h g.timed q e in
-      let w = shaped W D 2 cs s (omega arith) e q in
-      subst (λ b. (v ≡ marked W (early_lost b) l cs) × (sp ≡ spell (Some b) (text l s0 k)) →
-      Real (fresh_bus W D b cs s) os s0 (Some l) (watch (suc k) true v sp) n h) (sym x.0 ∙ c)
-      (λ m. fresh_again os s0 l v sp cs k r s n h x.0 z m g run y e x.1 x.2
-      (every W (λ x. (2 ≤ rank x) × (rank x ≤ 3)) (λ x. (early_lost true x || late_lost 2 x) ≡ not (eqb (rank x) 2))
-      (slot_high 2 (omega arith) (omega arith)) cs w.0)) m
-  tick_rises os s0 l v sp cs k r s b n h (suc (suc (suc zero))) e j4 c z m g run y q =
-      let x = fresh_one W D cs s h g.timed q e in
-      let w = shaped W D 3 cs s (omega arith) e q in
-      let f = w.1 in
-      let o = holds_not W 3 cs (omega arith) e in
-      subst (λ b. (v ≡ marked W (early_lost b) l cs) × (sp ≡ spell (Some b) (text l s0 k)) →
-      Real (fresh_bus W D b cs s) os s0 (Some l) (watch (suc k) true v sp) n h) (sym x.0 ∙ c)
-      (λ m. fresh_bit os s0 l v sp cs k r s true n h 3 x.0 z m g run y e j4 (omega arith) (omega arith) x.1 x.2 (cc)
-      (every W (λ x. (3 ≤ rank x) × (rank x ≤ 3)) (λ x. (early_lost true x || late_lost 3 x) ≡ not (eqb (rank x) 3))
-      (slot_high 3 (omega arith) (omega arith)) cs w.0)) m
-  tick_rises os s0 l v sp cs k r s b n h (suc (suc (suc (suc zero)))) e j4 c z m g run y q =
-      let x = fresh_listen W D (not (D.pulls s)) cs s h g.timed e refl in
-      let w = every W (λ x. 4 ≤ rank x) (λ x. rank x ≡ 4) (λ x h. omega (arith, rank_top x)) cs (least_below W 4 cs (omega arith)) in
-      let o = holds_not W 4 cs (omega arith) e in
-      subst (λ b. (v ≡ marked W (early_lost b) l cs) × (sp ≡ spell (Some b) (text l s0 k)) →
-      Real (fresh_bus W D b cs s) os s0 (Some l) (watch (suc k) true v sp) n h) (sym x.0 ∙ c)
-      (λ m. fresh_bit os s0 l v sp cs k r s (not (D.pulls s)) n h 4 x.0 z m g run y e j4 (omega arith) (omega arith) x.1 x.2 (cc)
-      (every W (λ x. rank x ≡ 4) (λ x. (early_lost (not (D.pulls s)) x || late_lost 4 x) ≡ not (eqb (rank x) 4))
-      (slot_listen (not (D.pulls s))) cs w)) m
-  tick_rises os s0 l v sp cs k r s b n h (suc (suc (suc (suc (suc j))))) e j4 c z m g run y q = absurd (omega arith)
+      Slots l s0 k r (cursors W cs) s → Fits_in os l s0 → Real (fresh_bus W D b cs s) os s0 (Some l) (watch (suc k) true v sp) n h
+  tick_rises os s0 l v sp cs k zero s b n h c z m g run y =
+      let a = some_left W D left Alike laws (begins W l) (D.begin s0) k 0 cs s run g.living in absurd (omega arith)
+  tick_rises os s0 l v sp cs k (suc r) s b n h c z m g run y =
+      rises os l s0 v sp cs k r s n h z g run y b c (run_shape W D left Alike laws (begins W l) (D.begin s0) k (suc r) cs s run g.living)
+      (least W cs) refl (alive_least W cs g.living) m
 
   -- a tick in any phase
   pub tick_stands : (u : Bus W D) (os : Tasks W) (s : D.S) (t : Option (Tasks W)) (w : Monitor) (n h : ℕ) → h ≤ most_count →
@@ -681,8 +671,7 @@ module _ (W : Script) (D : Side) (left : W.Cursor → ℕ) (Alike : W.Cursor →
       (tick_low os s0 l v sp cs k r s d f f' n h b b' c m g q y)
   tick_stands _ _ _ _ _ _ h hh (rose u os s0 l v sp cs k r s b n e j c m g q y) =
       subst (λ x. Real x os s0 (Some l) (watch (suc k) true v sp) n h) (sym e)
-      (tick_rises os s0 l v sp cs k r s b n h (least W cs) refl (alive_least W cs g.living) j c m g q y
-      (run_shape W D left Alike laws (begins W l) (D.begin s0) k r cs s q g.living))
+      (tick_rises os s0 l v sp cs k r s b n h j c m g q y)
   tick_stands _ _ _ _ _ _ h hh (high u os s0 l v sp cs k r s d c f n e j o z m g q y) =
       subst (λ x. Real x os s0 (Some l) (watch (suc k) true v sp) n h) (sym e)
       (tick_high os s0 l v sp cs k r s d c f n h hh j o z m g q y)
