@@ -2,7 +2,6 @@
 pub mod HoldsAsOne
 pub mod TickAsMachine
 pub mod HostsAsOne
-pub mod Ranks
 pub mod LeastStringLeads
 pub mod BookAsMachine
 pub mod MonitorAsMachine

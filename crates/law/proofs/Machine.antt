@@ -1,4 +1,4 @@
--- The law of a bus of which only scripts, one far side and one hold are known.
+-- A bus of which only scripts, one far side and one hold are known: how its turns go, and the invariant of them.
 pub mod BusAsMachine
 pub mod PhasesOfSlot
 pub mod EventForAll

@@ -22,8 +22,9 @@ use Rattle.master.specs.Script.{transfers}
 use Rattle.law.proofs.Alone.PortsAsSide.{ports_side, idle_ports}
 use Rattle.law.proofs.Alone.SealedIsLegal.{legal_transfer}
 use Rattle.law.proofs.Alone.SlotsRunOut.{slots_left}
-use Rattle.law.proofs.Machine.BookOfMachine.{any, answer, answer_if, armed_if, arm_book, nobody, disarm, disarm_one, Book as LawBook, book,
-    feed, stop_tells, book_tells as law_tells}
+use Rattle.law.proofs.Machine.BookOfMachine.{any, answer, answer_if, armed_if, arm_book, nobody, disarm, disarm_one, Book as MachineBook,
+    book,
+    feed, stop_tells, book_tells as machine_tells}
 use Rattle.law.proofs.Bus.LeastStringLeads.{LegalIf, AllLegal, carry_all, lead, told_are, devices_are}
 use Rattle.law.proofs.Bus.HostsAsOne.{Meanings, wants_of, hears_all}
 
@@ -174,14 +175,14 @@ somebody_leads ds d (None ∷ l) h = somebody_leads ds d l h
 somebody_leads ds d (Some t ∷ l) h = (_, refl)
 
 module _ (hs : List HostBehaviour) (ds : List Behaviour) where
-  abbrev pub law_book : List (Option TransferModel) → Bank PortModel ds → Option (List (Option TransferModel)) →
-      LawBook transfers (ports_side ds)
-  law_book os s t = book transfers (ports_side ds) os s t
+  abbrev pub machine_book : List (Option TransferModel) → Bank PortModel ds → Option (List (Option TransferModel)) →
+      MachineBook transfers (ports_side ds)
+  machine_book os s t = book transfers (ports_side ds) os s t
 
-  abbrev pub booked : Book hs ds → LawBook transfers (ports_side ds)
-  booked b = law_book (tasks hs b.entries) (idle_ports ds b.devices) (turn_if b.turn (contenders hs b.entries))
+  abbrev pub booked : Book hs ds → MachineBook transfers (ports_side ds)
+  booked b = machine_book (tasks hs b.entries) (idle_ports ds b.devices) (turn_if b.turn (contenders hs b.entries))
 
-  abbrev fed : LawBook transfers (ports_side ds) → Event → LawBook transfers (ports_side ds)
+  abbrev fed : MachineBook transfers (ports_side ds) → Event → MachineBook transfers (ports_side ds)
   fed b e = feed transfers (ports_side ds) slots_left b e
 
   -- who is armed wants something, and an open turn has a contender
@@ -193,10 +194,10 @@ module _ (hs : List HostBehaviour) (ds : List Behaviour) where
   contests_of b = contests_are ds b.devices hs b.entries
 
   pub armed_booked : (b : Book hs ds) (n : ℕ) → booked (book_arm hs ds b n).1 ≡
-      law_book (arm_book (tasks hs b.entries) (wants_of hs (meanings hs b.entries)) n) (idle_ports ds b.devices)
+      machine_book (arm_book (tasks hs b.entries) (wants_of hs (meanings hs b.entries)) n) (idle_ports ds b.devices)
       (turn_if b.turn (contenders hs b.entries))
   armed_booked b n = let es = b.entries in
-      λ i. law_book (arm_tasks hs es n i) (idle_ports ds b.devices) (turn_if b.turn (arm_contenders hs es n i))
+      λ i. machine_book (arm_tasks hs es n i) (idle_ports ds b.devices) (turn_if b.turn (arm_contenders hs es n i))
 
   pub armed_sound : (b : Book hs ds) (n : ℕ) → Sound b → Sound (book_arm hs ds b n).1
   armed_sound b n k = record {
@@ -209,8 +210,8 @@ module _ (hs : List HostBehaviour) (ds : List Behaviour) where
 
   opens_if : (es : Bank Entry hs) (d : Bank AddressedDevice ds) (w : Bool) →
       booked (cond w (of_parts (bank_map entry_contending hs es) d opened) (of_parts es d closed)) ≡
-      law_book (tasks hs es) (idle_ports ds d) (cond w (Some (tasks hs es)) None)
-  opens_if es d true = λ i. law_book (enter_tasks hs es i) (idle_ports ds d) (Some (enter_contenders hs es i))
+      machine_book (tasks hs es) (idle_ports ds d) (cond w (Some (tasks hs es)) None)
+  opens_if es d true = λ i. machine_book (enter_tasks hs es i) (idle_ports ds d) (Some (enter_contenders hs es i))
   opens_if es d false = refl
 
   opens_booked : (es : Bank Entry hs) (d : Bank AddressedDevice ds) (v : Turn) → Kept hs es →
@@ -218,7 +219,7 @@ module _ (hs : List HostBehaviour) (ds : List Behaviour) where
   opens_booked es d opened k = refl
   opens_booked es d closed k =
       opens_if es d (any_true (bank_list entry_is_armed hs es))
-      ∙ ap (λ w. law_book (tasks hs es) (idle_ports ds d) (cond w (Some (tasks hs es)) None)) (sym (any_armed hs es k))
+      ∙ ap (λ w. machine_book (tasks hs es) (idle_ports ds d) (cond w (Some (tasks hs es)) None)) (sym (any_armed hs es k))
 
   -- whom an open turn tells at its stop
   stop_told : (es : Bank Entry hs) (d : Bank AddressedDevice ds) →
@@ -240,7 +241,7 @@ module _ (hs : List HostBehaviour) (ds : List Behaviour) where
       let q = somebody_leads ds d (contenders hs es) (h refl) in
       let side = ap (λ cs. idle_ports ds (devices_after ds (least_result ds cs) d)) (contests_of (of_parts es d opened))
           ∙ devices_are ds d (contenders hs es) q.0 (contenders_legal hs es) q.1 in
-      λ i. law_book (armed i) (side i) None
+      λ i. machine_book (armed i) (side i) None
 
   pub fed_booked : (b : Book hs ds) (e : Event) → Sound b → booked (book_after hs ds b e) ≡ fed (booked b) e
   fed_booked b SteadyHigh k = opens_booked b.entries b.devices b.turn k.kept
@@ -256,7 +257,7 @@ module _ (hs : List HostBehaviour) (ds : List Behaviour) where
   stop_tells_booked es d opened = stop_told es d
   stop_tells_booked es d closed = nobody_is hs es
 
-  pub tells_booked : (b : Book hs ds) (e : Event) → book_told hs ds b e ≡ law_tells transfers (ports_side ds) slots_left (booked b) e
+  pub tells_booked : (b : Book hs ds) (e : Event) → book_told hs ds b e ≡ machine_tells transfers (ports_side ds) slots_left (booked b) e
   tells_booked b Stop = stop_tells_booked b.entries b.devices b.turn
   tells_booked b SteadyHigh = nobody_is hs b.entries
   tells_booked b (Rise x) = nobody_is hs b.entries

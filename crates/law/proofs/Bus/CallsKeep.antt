@@ -1,4 +1,4 @@
--- What arms and ticks keep, calls keep, runs too.
+-- What arms and ticks keep, calls keep: a run is so many ticks.
 use Rattle.std.proofs.Common.{◌≡◌, ℕ, zero, suc, ◌+◌, Bool, true, false, cond, ltb, List, [], ◌∷◌, subst, arith}
 use Rattle.device.specs.Device.{Behaviour}
 use Rattle.host.specs.Host.{HostBehaviour}

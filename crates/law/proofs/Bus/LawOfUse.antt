@@ -31,11 +31,11 @@ use Rattle.law.proofs.Machine.BusAsMachine.{verdicts}
 use Rattle.law.proofs.Machine.Arbitration.{at}
 use Rattle.law.proofs.Machine.BookOfMachine.{any, count, tick_tells}
 use Rattle.law.proofs.Bus.BookAsMachine.{tasks, contenders, contenders_legal, turn_if, contests_of}
-use Rattle.law.proofs.Bus.LeastStringLeads.{LegalIf, AllLegal, carry, lead, lead_legal, least_is, lexb_is, text, text_is}
+use Rattle.law.proofs.Bus.LeastStringLeads.{LegalIf, AllLegal, carry, carried_from, carried_at, lead, lead_legal, least_is, lexb_is, text,
+    text_is}
 use Rattle.law.proofs.Bus.CountsOfRun.{somes, count_somes, any_somes, masters_armed, entries_armed, pulls_none, lost_at, placed_back,
     run_counts}
 use Rattle.law.proofs.Bus.RunIsItsTicks.{runs_are_ticks}
-use Rattle.law.proofs.Bus.Ranks.{carried_from, carried_at}
 use Rattle.law.proofs.Bus.TickAsMachine.{masters_of, seen, levels_seen}
 use Rattle.law.proofs.Bus.UseKeepsInvariant.{Kept, Next, next, armed_as, side_as, marked_pull_none, few_left, answers_as, tells_as, later,
     watches_as, event_seen, told_seen, tells_in}

@@ -1,5 +1,7 @@
--- Who leads by the letters of carried alone is who leads slot by slot.
-use Rattle.std.proofs.Common.{◌≡◌, Bool, cond, List, [], ◌∷◌, map, Some, None, Option, sym, refl, ap, ◌∙◌, subst, ap₂, le_refl, arith}
+-- Who leads by the letters of carried alone is who leads slot by slot; and who is carried is a contender.
+use Rattle.std.proofs.Common.{◌≡◌, ℕ, zero, suc, Bool, cond, List, [], ◌∷◌, map, Some, None, Option, sym, refl, ap, ◌∙◌, subst, ap₂,
+    le_refl, arith}
+use Rattle.std.specs.Prelude.{slice_index_or}
 use Rattle.std.specs.Option.{option_map}
 use Rattle.transfer.specs.Transfer.{TransferModel}
 use Rattle.device.specs.Device.{Behaviour}
@@ -15,6 +17,7 @@ use Rattle.law.specs.Legal.{IsLegal}
 use Rattle.law.proofs.Alone.PortsAsSide.{ports_side, idle_ports}
 use Rattle.law.proofs.Alone.SlotsRunOut.{slots_left}
 use Rattle.law.proofs.Alone.Statements.{Agrees, opened_ports}
+use Rattle.law.proofs.Machine.Arbitration.{at}
 use Rattle.law.proofs.Machine.BookOfMachine.{task_string, task_outcome, task_side, pick, leader, wins, outcomes, leader_side}
 
 abbrev pub LegalIf : Option TransferModel → Type 0
@@ -103,3 +106,21 @@ module _ (ds : List Behaviour) (d : Bank AddressedDevice ds) where
       ∙ (after_one q (legal e) ∙ ap (λ o. leader_side transfers (ports_side ds) slots_left o side) (sym e)) where
         legal : lead l ≡ Some q → IsLegal q
         legal e = subst LegalIf e (lead_legal l k)
+
+  mapped_some : (o : Option TransferModel) (c : TransferResult ds) → option_map (carry) o ≡ Some c →
+      (t : TransferModel) × (o ≡ Some t) × (c ≡ carry t)
+  mapped_some None c e = cc
+  mapped_some (Some t) c e = (t, refl, let f : c ≡ carry t = cc in f)
+
+  -- who is carried is a contender
+  pub carried_from : (l : List (Option TransferModel)) (i : ℕ) (c : TransferResult ds) → slice_index_or (carry_all l) i None ≡ Some c →
+      (t : TransferModel) × (at l i ≡ Some t) × (c ≡ carry t)
+  carried_from [] i c e = cc
+  carried_from (o ∷ l) zero c e = mapped_some o c e
+  carried_from (o ∷ l) (suc i) c e = carried_from l i c e
+
+  pub carried_at : (l : List (Option TransferModel)) (i : ℕ) (t : TransferModel) → at l i ≡ Some t →
+      slice_index_or (carry_all l) i None ≡ Some (carry t)
+  carried_at [] i t e = cc
+  carried_at (o ∷ l) zero t e = cc
+  carried_at (o ∷ l) (suc i) t e = carried_at l i t e

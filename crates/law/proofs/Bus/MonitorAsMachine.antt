@@ -1,4 +1,4 @@
--- What the watcher notes, as the watcher of the law notes it.
+-- What the monitor notes, as the machine's monitor notes it.
 use Rattle.std.proofs.lemmas.List.Sums.{sum_by-cons}
 use Rattle.std.proofs.Common.{◌≡◌, Bool, true, false, cond, List, [], ◌∷◌, Some, None, Option, sym, refl, ap, ◌∙◌, arith, is_some}
 use Rattle.device.specs.Device.{Behaviour}

@@ -27,11 +27,11 @@ use Rattle.law.proofs.Alone.PortsAsSide.{unheld, ports_side, idle_ports}
 use Rattle.law.proofs.Alone.SlotsRunOut.{slots_left}
 use Rattle.law.proofs.Machine.BusAsMachine.{Bus, verdicts, tick, tick_event, tick_verdicts}
 use Rattle.law.proofs.Machine.BookOfMachine.{count, any, answer, answer_if, armed_if, arm_book, task_of, armeds, pulling, arm_masters,
-    arm_bus, tellings, tick_tells, turned, noted, Book as LawBook, feed, book_tells}
+    arm_bus, tellings, tick_tells, turned, noted, Book as MachineBook, feed, book_tells}
 use Rattle.law.proofs.Machine.Invariant.{Stands, arm_stands}
 use Rattle.law.proofs.Machine.InvariantKept.{Fine, tick_stands}
 use Rattle.law.proofs.Machine.InvariantSays.{stands_armed, stands_side, stands_out, stands_left}
-use Rattle.law.proofs.Bus.BookAsMachine.{law_book, booked, armed_booked, Sound, tasks, meanings, arm_tasks, arm_meanings, arm_answers,
+use Rattle.law.proofs.Bus.BookAsMachine.{machine_book, booked, armed_booked, Sound, tasks, meanings, arm_tasks, arm_meanings, arm_answers,
     armed_sound, fed_booked, fed_sound, heard_after, tells_booked}
 use Rattle.law.proofs.Bus.CallsKeep.{calls_keep}
 use Rattle.law.proofs.Bus.HostsAsOne.{Meanings, want_of, wants_of, legal_wants, hears_all, plays}
@@ -102,7 +102,7 @@ module _ (hs : List HostBehaviour) (ds : List Behaviour) where
       ∙ ap (λ v. tellings transfers (verdicts transfers (masters_of hs u.masters) (signal u.wire v))) (levels_seen hs ds u)
 
   -- the machine of a bus beside the book of its use
-  abbrev StandsThere : Bus transfers (ports_side ds) → LawBook transfers (ports_side ds) → Monitor → ℕ → Type 0
+  abbrev StandsThere : Bus transfers (ports_side ds) → MachineBook transfers (ports_side ds) → Monitor → ℕ → Type 0
   StandsThere u b w n = Stands transfers (ports_side ds) slots_left Alike IsLegal (Idle ds) u b.armed b.side b.turn w n
 
   abbrev pub StandsIn : Use hs ds → ℕ → Type 0
@@ -120,7 +120,7 @@ module _ (hs : List HostBehaviour) (ds : List Behaviour) where
     abbrev u : Bus transfers (ports_side ds)
     u = seen hs ds x.bus
 
-    abbrev b : LawBook transfers (ports_side ds)
+    abbrev b : MachineBook transfers (ports_side ds)
     b = booked hs ds x.book
 
     abbrev e : Event
@@ -148,8 +148,9 @@ module _ (hs : List HostBehaviour) (ds : List Behaviour) where
     arm_seen i = ap (λ ms. record { wire = u.wire; masters = ms; side = u.side; hold = u.hold }) (arm_masters_are hs x.bus.masters i)
 
     arm_booked : (i : ℕ) → booked hs ds (book_arm hs ds x.book i).1 ≡
-        law_book hs ds (arm_book b.armed (wants_of hs (hosts_of hs x.bus.masters)) i) b.side b.turn
-    arm_booked i = armed_booked hs ds x.book i ∙ ap (λ m. law_book hs ds (arm_book b.armed (wants_of hs m) i) b.side b.turn) (sym k.hosts)
+        machine_book hs ds (arm_book b.armed (wants_of hs (hosts_of hs x.bus.masters)) i) b.side b.turn
+    arm_booked i = armed_booked hs ds x.book i
+        ∙ ap (λ m. machine_book hs ds (arm_book b.armed (wants_of hs m) i) b.side b.turn) (sym k.hosts)
 
     armed_keeps : (i : ℕ) → Kept (use_after_call hs ds x (arms i)) n
     armed_keeps i =

@@ -1,4 +1,4 @@
--- The invariant of a bus and its book, between any two steps; and that an arm keeps it.
+-- The invariant of a machine and its book, between any two arms and ticks; and that an arm keeps it.
 use Rattle.std.proofs.Common.{◌≡◌, ℕ, zero, suc, ◌+◌, ◌-◌, ◌*◌, ◌≤◌, Bool, true, false, not, ◌||◌, ◌⊎◌, List, [], ◌∷◌, Some, None, Option,
     unwrap_or, sym, refl, ap, ◌∙◌, subst, inl, inr, arith}
 use Rattle.master.specs.MasterState.{MasterModel}
