@@ -1,6 +1,6 @@
 -- The turn book as the machine's book: both go the same way at every arm and event, and hosts hear what the book tells.
-use Rattle.std.proofs.Common.{◌≡◌, ℕ, zero, suc, Bool, true, false, cond, List, [], ◌∷◌, is_some, Some, None, Option, Result, sym, refl,
-    ap, ◌∙◌, ap₂, arith}
+use Rattle.std.proofs.Common.{◌≡◌, ℕ, zero, suc, Bool, true, false, cond, List, [], ◌∷◌, is_some, Some, None, Option, Result, sym, refl, ap}
+use Rattle.std.proofs.Common.{◌∙◌, ap₂, arith}
 use Rattle.std.specs.Option.{option_map}
 use Rattle.transfer.specs.declared.draft.Transfer.{Transfer}
 use Rattle.transfer.specs.Transfer.{TransferModel, transfer_model}
@@ -13,18 +13,17 @@ use Rattle.wire.specs.declared.event.Event.{Event}
 use Rattle.wire.specs.declared.event.Event.TheVariants.{Rise, Fall, Start, Stop, SteadyHigh, SteadyLow}
 use Rattle.master.specs.Arming.{is_armed, arming_after_arm}
 use Rattle.law.specs.Bank.{Bank, bank_map, bank_list, any_true}
-use Rattle.law.specs.Book.{Entry, entry_is_armed, entry_contending, wanted_if, contender_transfer, entry_after_turn, arm_entry_at,
-    entries_after_turn, least_result, outcomes_of_turn, devices_after, Turn, closed, opened, Book, book_arm, contender_results,
-    book_after_opening, told_at_stop, book_after_stop, book_told, book_after}
+use Rattle.law.specs.Book.{Entry, entry_is_armed, entry_contending, wanted_if, contender_transfer, entry_after_turn, arm_entry_at}
+use Rattle.law.specs.Book.{entries_after_turn, least_result, outcomes_of_turn, devices_after, Turn, closed, opened, Book, book_arm}
+use Rattle.law.specs.Book.{contender_results, book_after_opening, told_at_stop, book_after_stop, book_told, book_after}
 use Rattle.law.specs.TransferResult.{AddressedDevice, transfer_result}
 use Rattle.port.specs.Port.{PortModel}
 use Rattle.master.specs.Script.{transfers}
 use Rattle.law.proofs.Alone.PortsAsSide.{ports_side, idle_ports}
 use Rattle.law.proofs.Alone.SealedIsLegal.{legal_transfer}
 use Rattle.law.proofs.Alone.SlotsRunOut.{slots_left}
-use Rattle.law.proofs.Machine.BookOfMachine.{any, answer, answer_if, armed_if, arm_book, nobody, disarm, disarm_one, Book as MachineBook,
-    book,
-    feed, stop_tells, book_tells as machine_tells}
+use Rattle.law.proofs.Machine.BookOfMachine.{any, answer, answer_if, armed_if, arm_book, nobody, disarm, disarm_one, Book as MachineBook}
+use Rattle.law.proofs.Machine.BookOfMachine.{book, feed, stop_tells, book_tells as machine_tells}
 use Rattle.law.proofs.Bus.LeastStringLeads.{LegalIf, AllLegal, carry_all, lead, told_are, devices_are}
 use Rattle.law.proofs.Bus.HostsAsOne.{Meanings, wants_of, hears_all}
 
@@ -77,7 +76,7 @@ arm_meanings [] es n = refl
 arm_meanings (h ∷ hs) es zero = refl
 arm_meanings (h ∷ hs) es (suc n) = ap (λ r. (es.0.meaning, r)) (arm_meanings hs es.1 n)
 
-pub arm_contenders : (hs : List HostBehaviour) (es : Bank Entry hs) (n : ℕ) → contenders hs (arm_entry_at hs es n).1 ≡ contenders hs es
+arm_contenders : (hs : List HostBehaviour) (es : Bank Entry hs) (n : ℕ) → contenders hs (arm_entry_at hs es n).1 ≡ contenders hs es
 arm_contenders [] es n = refl
 arm_contenders (h ∷ hs) es zero = refl
 arm_contenders (h ∷ hs) es (suc n) = grind (arith, arm_contenders hs es.1 n)
@@ -95,7 +94,7 @@ arm_answers (h ∷ hs) es (suc n) k = arm_answers hs es.1 n k.1
 kept_arms : (a : Arming (Unit {0})) (w : Option Transfer) → WantsIf a w → WantsIf (arms_by a w).1 w
 kept_arms a w k = grind arith
 
-pub arm_kept : (hs : List HostBehaviour) (es : Bank Entry hs) (n : ℕ) → Kept hs es → Kept hs (arm_entry_at hs es n).1
+arm_kept : (hs : List HostBehaviour) (es : Bank Entry hs) (n : ℕ) → Kept hs es → Kept hs (arm_entry_at hs es n).1
 arm_kept [] es n k = tt
 arm_kept (h ∷ hs) es zero k = (kept_arms es.0.arming (h.want es.0.meaning) k.0, k.1)
 arm_kept (h ∷ hs) es (suc n) k = (k.0, arm_kept hs es.1 n k.1)
@@ -237,10 +236,10 @@ module _ (hs : List HostBehaviour) (ds : List Behaviour) where
       let us = stop_tells transfers (ports_side ds) slots_left (tasks hs es) (idle_ports ds d) (Some (contenders hs es)) in
       let told = stop_told es d in
       let armed : tasks hs (entries_after_turn hs es ts) ≡ disarm (tasks hs es) us =
-          leave_tasks hs es ts ∙ ap (disarm (tasks hs es)) told in
+      leave_tasks hs es ts ∙ ap (disarm (tasks hs es)) told in
       let q = somebody_leads ds d (contenders hs es) (h refl) in
       let side = ap (λ cs. idle_ports ds (devices_after ds (least_result ds cs) d)) (contests_of (of_parts es d opened))
-          ∙ devices_are ds d (contenders hs es) q.0 (contenders_legal hs es) q.1 in
+      ∙ devices_are ds d (contenders hs es) q.0 (contenders_legal hs es) q.1 in
       λ i. machine_book (armed i) (side i) None
 
   pub fed_booked : (b : Book hs ds) (e : Event) → Sound b → booked (book_after hs ds b e) ≡ fed (booked b) e

@@ -3,8 +3,8 @@ use Rattle.std.proofs.Common.{◌≡◌, ℕ, zero, suc, ◌+◌, Bool, true, fa
 use Rattle.device.specs.Device.{Behaviour}
 use Rattle.host.specs.Host.{HostBehaviour}
 use Rattle.law.specs.Bus.{HoldAnswers, is_at_rest}
-use Rattle.law.specs.Use.{Call, arms, ticks, runs, Use, use_after_tick, use_after_ticks, use_after_call, use_after, ticks_of_run,
-    ticks_of_call, ticks_of}
+use Rattle.law.specs.Use.{Call, arms, ticks, runs, Use, use_after_tick, use_after_ticks, use_after_call, use_after, ticks_of_run}
+use Rattle.law.specs.Use.{ticks_of_call, ticks_of}
 use Rattle.law.specs.Limits.{most_ticks}
 
 -- P m x: something of the use x, before which m ticks are made

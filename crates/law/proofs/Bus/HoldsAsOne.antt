@@ -50,7 +50,7 @@ pub hold_follows : (ds : List Behaviour) (p : Bank PortModel ds) (e : Event) (o 
     (e ≡ Fall → longest_hold ds p ≡ 0) →
     longest_hold ds (ports_step ds p (record { event = e; bit = o; free_and_high = i }) a) ≡
     hold_after (longest_hold ds p) e o
-        (asked_hold e o (longest_hold ds (ports_step ds p (record { event = e; bit = o; free_and_high = i }) a)))
+    (asked_hold e o (longest_hold ds (ports_step ds p (record { event = e; bit = o; free_and_high = i }) a)))
 hold_follows ds p e o i a h = grind (arith, still ds p e o i a, lowered ds p o i a)
 
 module _ (b : Behaviour) where
@@ -59,7 +59,7 @@ module _ (b : Behaviour) where
   small_counts p m x h k e = grind arith
 
 -- a hold that is asked for is at most most_count
-pub asked_small : (ds : List Behaviour) (p : Bank PortModel ds) (x i : Bool) (a : HoldAnswers ds) → longest_hold ds p ≤ most_count →
+asked_small : (ds : List Behaviour) (p : Bank PortModel ds) (x i : Bool) (a : HoldAnswers ds) → longest_hold ds p ≤ most_count →
     longest_hold ds (ports_step ds p (record { event = Fall; bit = Some x; free_and_high = i }) a) ≤ most_count
 asked_small [] p x i a h = omega arith
 asked_small (b ∷ ds) p x i a h =

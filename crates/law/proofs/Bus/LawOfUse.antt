@@ -1,6 +1,6 @@
 -- The law at one point of a use, from the invariant there and what that says of the next tick.
-use Rattle.std.proofs.Common.{◌≡◌, ℕ, zero, suc, ◌+◌, ◌<◌, ◌≤◌, Bool, true, false, ltb, List, [], ◌∷◌, map, is_some, Some, None, Ok, Err,
-    cond, refl, Option, Result, sym, ap, ◌∙◌, subst, ap₂, arith}
+use Rattle.std.proofs.Common.{◌≡◌, ℕ, zero, suc, ◌+◌, ◌<◌, ◌≤◌, Bool, true, false, ltb, List, [], ◌∷◌, map, is_some, Some, None, Ok, Err}
+use Rattle.std.proofs.Common.{cond, refl, Option, Result, sym, ap, ◌∙◌, subst, ap₂, arith}
 use Rattle.std.specs.Prelude.{slice_index_or}
 use Rattle.std.proofs.lemmas.Bool.{le-ltb}
 use Rattle.std.specs.Option.{option_map}
@@ -13,8 +13,8 @@ use Rattle.law.specs.Bank.{Bank, bank_list, any_true}
 use Rattle.law.specs.Book.{entry_is_armed, Turn, opened, Book, book_arm, contender_results, least_result}
 use Rattle.law.specs.Bus.{BusModel, HoldAnswers, arm_at, levels_at, told_at}
 use Rattle.law.specs.TransferResult.{TransferResult}
-use Rattle.law.specs.Use.{Call, runs, Use, event_at, marks_of, monitor_after, use_after_call, use_after, use_after_ticks, ticks_of_run,
-    ticks_of_call, ticks_of, armed_now}
+use Rattle.law.specs.Use.{Call, runs, Use, event_at, marks_of, monitor_after, use_after_call, use_after, use_after_ticks, ticks_of_run}
+use Rattle.law.specs.Use.{ticks_of_call, ticks_of, armed_now}
 use Rattle.law.specs.Law.{FirstDifference, true_count, Point, Loses, StopTells, TickLaw, Law}
 use Rattle.master.specs.MasterState.{quiet, lost, VerdictModel, master_step}
 use Rattle.master.specs.Master.{HostedMaster, mark_of, told_outcome, hosted_mark, hosted_told}
@@ -31,14 +31,14 @@ use Rattle.law.proofs.Machine.BusAsMachine.{verdicts}
 use Rattle.law.proofs.Machine.Arbitration.{at}
 use Rattle.law.proofs.Machine.BookOfMachine.{any, count, tick_tells}
 use Rattle.law.proofs.Bus.BookAsMachine.{tasks, contenders, contenders_legal, turn_if, contests_of}
-use Rattle.law.proofs.Bus.LeastStringLeads.{LegalIf, AllLegal, carry, carried_from, carried_at, lead, lead_legal, least_is, lexb_is, text,
-    text_is}
-use Rattle.law.proofs.Bus.CountsOfRun.{somes, count_somes, any_somes, masters_armed, entries_armed, pulls_none, lost_at, placed_back,
-    run_counts}
+use Rattle.law.proofs.Bus.LeastStringLeads.{LegalIf, AllLegal, carry, carried_from, carried_at, lead, lead_legal, least_is, lexb_is, text}
+use Rattle.law.proofs.Bus.LeastStringLeads.{text_is}
+use Rattle.law.proofs.Bus.CountsOfRun.{somes, count_somes, any_somes, masters_armed, entries_armed, pulls_none, lost_at, placed_back}
+use Rattle.law.proofs.Bus.CountsOfRun.{run_counts}
 use Rattle.law.proofs.Bus.RunIsItsTicks.{runs_are_ticks}
 use Rattle.law.proofs.Bus.TickAsMachine.{masters_of, seen, levels_seen}
-use Rattle.law.proofs.Bus.UseKeepsInvariant.{Kept, Next, next, armed_as, side_as, marked_pull_none, few_left, answers_as, tells_as, later,
-    watches_as, event_seen, told_seen, tells_in}
+use Rattle.law.proofs.Bus.UseKeepsInvariant.{Kept, Next, next, armed_as, side_as, marked_pull_none, few_left, answers_as, tells_as, later}
+use Rattle.law.proofs.Bus.UseKeepsInvariant.{watches_as, event_seen, told_seen, tells_in}
 
 pub legal_at : (l : List (Option TransferModel)) (i : ℕ) (t : TransferModel) → AllLegal l → at l i ≡ Some t → IsLegal t
 legal_at [] i t k e = cc
@@ -110,7 +110,7 @@ module _ (hs : List HostBehaviour) (ds : List Behaviour) where
     loses i e =
         let s = signal x.bus.wire (levels_at hs ds x.bus) in
         let v = subst (λ w. slice_index_or (verdicts transfers (masters_of hs x.bus.masters) (signal x.bus.wire w)) i quiet ≡ lost)
-            (levels_seen hs ds x.bus) (lost_at hs x.bus.masters s i e) in
+        (levels_seen hs ds x.bus) (lost_at hs x.bus.masters s i e) in
         let z = goes.loses i v in
         let o = turn_open b.turn l z.turn z.now in
         let here : at l i ≡ Some z.task = ap (λ m. at m i) o.1 ∙ z.contends in
@@ -204,7 +204,7 @@ module _ (hs : List HostBehaviour) (ds : List Behaviour) where
         x.told < (use_after hs ds x cs).told
     lively e cs h =
         let some : any (tasks hs b.entries) ≡ true =
-            any_somes (tasks hs b.entries) ∙ (ap any_true (entries_armed hs b.entries k.sound.kept ∙ sym armed_same) ∙ e) in
+        any_somes (tasks hs b.entries) ∙ (ap any_true (entries_armed hs b.entries k.sound.kept ∙ sym armed_same) ∙ e) in
         tells_in hs ds x due k some cs (let z = few_left hs ds x due k in omega arith)
 
     pub lawful : Law hs ds x

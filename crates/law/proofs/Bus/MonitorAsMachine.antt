@@ -26,8 +26,8 @@ falses_are (h ∷ hs) es = ap (λ l. false ∷ l) (falses_are hs es.1)
 module _ (hs : List HostBehaviour) (ds : List Behaviour) where
   opening_as : (w : Monitor) (b : Book hs ds) (v : Bool) →
       cond (is_open (cond {A = Book hs ds} v
-          (record { entries = bank_map entry_contending hs b.entries; devices = b.devices; turn = opened })
-          (record { entries = b.entries; devices = b.devices; turn = closed })).turn)
+      (record { entries = bank_map entry_contending hs b.entries; devices = b.devices; turn = opened })
+      (record { entries = b.entries; devices = b.devices; turn = closed })).turn)
       (new_monitor (bank_list (λ h x. false) hs b.entries)) w ≡
       cond v (watch 0 false (falses (tasks hs b.entries)) (spell None [])) w
   opening_as w b true = ap (λ l. watch 0 false l (spell None [])) (falses_are hs b.entries)
@@ -35,7 +35,7 @@ module _ (hs : List HostBehaviour) (ds : List Behaviour) where
 
   closed_as : (w : Monitor) (b : Book hs ds) (e : Event) → Kept hs b.entries →
       monitor_after hs ds w (record { entries = b.entries; devices = b.devices; turn = closed }) e ≡
-          turned transfers w (tasks hs b.entries) None e
+      turned transfers w (tasks hs b.entries) None e
   closed_as w b SteadyHigh k = opening_as w b (any_true (bank_list entry_is_armed hs b.entries))
       ∙ ap (λ v. cond v (watch 0 false (falses (tasks hs b.entries)) (spell None [])) w) (sym (any_armed hs b.entries k))
   closed_as w b Fall k = refl
@@ -46,7 +46,7 @@ module _ (hs : List HostBehaviour) (ds : List Behaviour) where
 
   watched_parts : (w : Monitor) (b : Book hs ds) (v : Turn) (e : Event) → Kept hs b.entries →
       monitor_after hs ds w (record { entries = b.entries; devices = b.devices; turn = v }) e ≡
-          turned transfers w (tasks hs b.entries) (turn_if v (contenders hs b.entries)) e
+      turned transfers w (tasks hs b.entries) (turn_if v (contenders hs b.entries)) e
   watched_parts w b opened e k = refl
   watched_parts w b closed e k = closed_as w b e k
 

@@ -3,8 +3,8 @@ use Rattle.std.proofs.Common.{◌≡◌, ℕ, zero, suc, ◌+◌, Bool, true, fa
 use Rattle.device.specs.Device.{Behaviour}
 use Rattle.host.specs.Host.{HostBehaviour}
 use Rattle.law.specs.Bus.{HoldAnswers, is_at_rest}
-use Rattle.law.specs.Use.{Call, arms, ticks, runs, Use, use_after_tick, one_by_one, call_in_ticks, in_ticks, use_after_call, use_after,
-    use_after_ticks, ticks_of_run, ticks_of_call, ticks_of}
+use Rattle.law.specs.Use.{Call, arms, ticks, runs, Use, use_after_tick, one_by_one, call_in_ticks, in_ticks, use_after_call, use_after}
+use Rattle.law.specs.Use.{use_after_ticks, ticks_of_run, ticks_of_call, ticks_of}
 use Rattle.law.specs.Limits.{most_ticks}
 
 module _ (hs : List HostBehaviour) (ds : List Behaviour) where

@@ -27,12 +27,12 @@ master_of h x = x.master
 abbrev pub masters_of : (hs : List HostBehaviour) → Bank HostedMaster hs → List (MasterModel transfers)
 masters_of hs ms = bank_list master_of hs ms
 
-pub pulls_of : (hs : List HostBehaviour) (ms : Bank HostedMaster hs) →
+pulls_of : (hs : List HostBehaviour) (ms : Bank HostedMaster hs) →
     all_pulls (bank_list hosted_pulls hs ms) ≡ masters_pull transfers (masters_of hs ms)
 pulls_of [] ms = refl
 pulls_of (h ∷ hs) ms = grind (arith, pulls_of hs)
 
-pub steps_of : (hs : List HostBehaviour) (ms : Bank HostedMaster hs) (s : Signal) →
+steps_of : (hs : List HostBehaviour) (ms : Bank HostedMaster hs) (s : Signal) →
     masters_of hs (bank_map (λ h. hosted_step h s) hs ms) ≡ masters_step transfers (masters_of hs ms) s
 steps_of [] ms s = refl
 steps_of (h ∷ hs) ms s = grind (arith, steps_of hs)
@@ -90,8 +90,8 @@ module _ (hs : List HostBehaviour) (ds : List Behaviour) where
       let s = signal u.wire v in
       let hold_goes = hold_follows ds u.ports s.event s.bit s.free_and_high a (λ e. h (falls_from_high u.wire.last v e)) in
       let free : longest_hold ds u.ports ≡ 0 =
-          nobody (all_pulls (bank_list hosted_pulls hs u.masters)).scl (all_pulls (bank_list port_pulls ds u.ports)).scl
-          (longest_hold ds u.ports) (held ds u.ports) k in
+      nobody (all_pulls (bank_list hosted_pulls hs u.masters)).scl (all_pulls (bank_list port_pulls ds u.ports)).scl
+      (longest_hold ds u.ports) (held ds u.ports) k in
       hold_goes ∙ (kept u.wire.last.scl v.scl u.wire.last.sda v.sda (longest_hold ds u.ports) s.bit (answer_at u a) k ∙ free) where
         nobody : (p q : Bool) (n : ℕ) → q ≡ ltb 0 n → not (p || q) ≡ true → n ≡ 0
         nobody p q n e h = grind (arith, nat_tests)

@@ -1,6 +1,6 @@
 -- The invariant of a machine and its book, between any two arms and ticks; and that an arm keeps it.
-use Rattle.std.proofs.Common.{◌≡◌, ℕ, zero, suc, ◌+◌, ◌-◌, ◌*◌, ◌≤◌, Bool, true, false, not, ◌||◌, ◌⊎◌, List, [], ◌∷◌, Some, None, Option,
-    unwrap_or, sym, refl, ap, ◌∙◌, subst, inl, inr, arith}
+use Rattle.std.proofs.Common.{◌≡◌, ℕ, zero, suc, ◌+◌, ◌-◌, ◌*◌, ◌≤◌, Bool, true, false, not, ◌||◌, ◌⊎◌, List, [], ◌∷◌, Some, None, Option}
+use Rattle.std.proofs.Common.{unwrap_or, sym, refl, ap, ◌∙◌, subst, inl, inr, arith}
 use Rattle.master.specs.MasterState.{MasterModel}
 use Rattle.master.specs.Script.{Script}
 use Rattle.master.specs.Symbol.{pulls_sda}
@@ -10,12 +10,13 @@ use Rattle.law.specs.Letter.{Letter}
 use Rattle.law.specs.Monitor.{Monitor}
 use Rattle.law.proofs.FarSide.{Side}
 use Rattle.law.proofs.Machine.BusAsMachine.{taken, Bus}
-use Rattle.law.proofs.Machine.PhasesOfSlot.{holds, early_lost, Cell, looks, cursors, idling, claimed, opened, lowered, fresh, settled,
-    some, alive, Timed, advance, bus, free_bus, claimed_bus, opened_bus, low_bus, fresh_bus, settled_bus, carries}
+use Rattle.law.proofs.Machine.PhasesOfSlot.{holds, early_lost, Cell, looks, cursors, idling, claimed, opened, lowered, fresh, settled, some}
+use Rattle.law.proofs.Machine.PhasesOfSlot.{alive, Timed, advance, bus, free_bus, claimed_bus, opened_bus, low_bus, fresh_bus, settled_bus}
+use Rattle.law.proofs.Machine.PhasesOfSlot.{carries}
 use Rattle.law.proofs.Machine.Arbitration.{at, slots, opened as opens_at}
 use Rattle.law.proofs.Machine.BookOfMachine.{Tasks, armed_if, arm_book, begins, Spell, spell, fallen, watch, arm_bus}
-use Rattle.law.proofs.Machine.CellsOfTurn.{cell_armeds, Holding, Within, marked, never, arm_cells, arm_looks, arm_armeds, arm_timed,
-    arm_holding, arm_within, arm_some, arm_cursors, arm_marked, arm_advance}
+use Rattle.law.proofs.Machine.CellsOfTurn.{cell_armeds, Holding, Within, marked, never, arm_cells, arm_looks, arm_armeds, arm_timed}
+use Rattle.law.proofs.Machine.CellsOfTurn.{arm_holding, arm_within, arm_some, arm_cursors, arm_marked, arm_advance}
 use Rattle.law.proofs.Machine.SlotsOfTurn.{Run, spelled}
 
 abbrev pub Ready : {A : Type 0} → (A → Type 0) → List (Option A) → Type 0
@@ -113,7 +114,7 @@ module _ (W : Script) where
 armed_from : {A : Type 0} (o w : Option A) (p : A) → armed_if o w ≡ Some p → (o ≡ Some p) ⊎ (w ≡ Some p)
 armed_from o w p h = grind arith
 
-pub arm_from : {A : Type 0} (os ws : List (Option A)) (i j : ℕ) (p : A) → at (arm_book os ws i) j ≡ Some p →
+arm_from : {A : Type 0} (os ws : List (Option A)) (i j : ℕ) (p : A) → at (arm_book os ws i) j ≡ Some p →
     (at os j ≡ Some p) ⊎ (at ws j ≡ Some p)
 arm_from [] ws i j p e = inl e
 arm_from (o ∷ os) [] i j p e = inl e

@@ -1,6 +1,6 @@
 -- A tick keeps the invariant, tells whom the book tells, marks whom it may, and brings an outcome nearer.
-use Rattle.std.proofs.Common.{◌≡◌, ℕ, zero, suc, ◌+◌, ◌-◌, ◌*◌, ◌<◌, ◌≤◌, Bool, true, false, cond, not, ◌||◌, eqb, ◌⊎◌, List, [], ◌∷◌,
-    ◌++◌, is_some, Some, None, Option, unwrap_or, sym, refl, ap, ◌∙◌, subst, ap₂, inl, inr, append-nil, arith}
+use Rattle.std.proofs.Common.{◌≡◌, ℕ, zero, suc, ◌+◌, ◌-◌, ◌*◌, ◌<◌, ◌≤◌, Bool, true, false, cond, not, ◌||◌, eqb, ◌⊎◌, List, [], ◌∷◌, ◌++◌}
+use Rattle.std.proofs.Common.{is_some, Some, None, Option, unwrap_or, sym, refl, ap, ◌∙◌, subst, ap₂, inl, inr, append-nil, arith}
 use Rattle.std.specs.Prelude.{slice_index_or}
 use Rattle.std.proofs.lemmas.Bool.Decides.{nat_tests as tells}
 use Rattle.std.proofs.lemmas.Bool.{cases_lt}
@@ -18,33 +18,33 @@ use Rattle.law.specs.Letter.{Letter, stop, restart, bit_letter}
 use Rattle.law.specs.Monitor.{Monitor}
 use Rattle.law.proofs.FarSide.{Side, heard, letter}
 use Rattle.law.proofs.Machine.BusAsMachine.{any_scl, verdicts, asked, taken, Bus, tick, tick_event, said, tick_verdicts}
-use Rattle.law.proofs.Machine.PhasesOfSlot.{lines, shown, rank, holds, early_lost, late_lost, Cell, looks, notes, no_verdict, early, late,
-    cursors, opened, settled, some, Every, Timed, least, stay, advance, finished, claim_all, free_bus, claimed_bus, opened_bus, low_bus,
-    fresh_bus, settled_bus, carries, held, Shape}
+use Rattle.law.proofs.Machine.PhasesOfSlot.{lines, shown, rank, holds, early_lost, late_lost, Cell, looks, notes, no_verdict, early, late}
+use Rattle.law.proofs.Machine.PhasesOfSlot.{cursors, opened, settled, some, Every, Timed, least, stay, advance, finished, claim_all}
+use Rattle.law.proofs.Machine.PhasesOfSlot.{free_bus, claimed_bus, opened_bus, low_bus, fresh_bus, settled_bus, carries, held, Shape}
 use Rattle.law.proofs.Machine.Arbitration.{at, lead, Quiet, Laws}
-use Rattle.law.proofs.Machine.BookOfMachine.{Tasks, count, any, nobody, disarm, is_lost, telling, tellings, begins, task_string, leader,
-    wins, outcomes,
-    leader_side, Book, book, feed, book_tells, Spell, spell, fallen, watch, falses, marks_too, turned, noted, sees, Loses, Stopped,
-    Spelled, Plays}
+use Rattle.law.proofs.Machine.BookOfMachine.{Tasks, count, any, nobody, disarm, is_lost, telling, tellings, begins, task_string, leader}
+use Rattle.law.proofs.Machine.BookOfMachine.{wins, outcomes, leader_side, Book, book, feed, book_tells, Spell, spell, fallen, watch, falses}
+use Rattle.law.proofs.Machine.BookOfMachine.{marks_too, turned, noted, sees, Loses, Stopped, Spelled, Plays}
 use Rattle.law.proofs.Machine.EventForAll.{rank_top, every, least_below, via_verdicts}
 use Rattle.law.proofs.Machine.TickWhileLow.{low_stays, low_rises, low_ends}
 use Rattle.law.proofs.Machine.TickWhileHigh.{opened_stays, opened_falls, opened_ends, settled_stays, settled_falls, settled_ends}
 use Rattle.law.proofs.Machine.TickOfStart.{free_claims, free_stays, claimed_starts}
 use Rattle.law.proofs.Machine.TickAfterRise.{shaped, fresh_zero, fresh_end, fresh_restart, fresh_one, fresh_listen}
-use Rattle.law.proofs.Machine.VerdictsElsewhere.{lowered_quiet, rising_verdicts, settled_quiet, settled_fall_quiet, opened_quiet,
-    opened_fall_quiet, claimed_quiet, idle_quiet}
-use Rattle.law.proofs.Machine.SurvivorsOfSlot.{timed_stay, timed_advance, timed_finished, alive_advance, alive_stay, alive_least,
-    holds_zero, holds_restart, holds_not}
+use Rattle.law.proofs.Machine.VerdictsElsewhere.{lowered_quiet, rising_verdicts, settled_quiet, settled_fall_quiet, opened_quiet}
+use Rattle.law.proofs.Machine.VerdictsElsewhere.{opened_fall_quiet, claimed_quiet, idle_quiet}
+use Rattle.law.proofs.Machine.SurvivorsOfSlot.{timed_stay, timed_advance, timed_finished, alive_advance, alive_stay, alive_least}
+use Rattle.law.proofs.Machine.SurvivorsOfSlot.{holds_zero, holds_restart, holds_not}
 use Rattle.law.proofs.Machine.LeadingSymbol.{rank_inj}
-use Rattle.law.proofs.Machine.CellsOfTurn.{count_nobody, cell_armeds, Holding, Within, marked, never, armeds_stay, armeds_advance,
-    holding_stay, holding_advance, within_stay, within_advance, holding_finished, armeds_claim, cursors_claim, timed_claim, holding_claim,
-    within_claim, alive_claim, marked_claim, marked_more, marked_stay, marked_advance, note_at, unmarked, contender, tells_none}
-use Rattle.law.proofs.Machine.SlotsOfTurn.{Run, spelled, spells, letter_bit, letter_again, letter_stop, leads, alive_at, some_left,
-    run_shape, run_carries, run_bit, run_again}
+use Rattle.law.proofs.Machine.CellsOfTurn.{count_nobody, cell_armeds, Holding, Within, marked, never, armeds_stay, armeds_advance}
+use Rattle.law.proofs.Machine.CellsOfTurn.{holding_stay, holding_advance, within_stay, within_advance, holding_finished, armeds_claim}
+use Rattle.law.proofs.Machine.CellsOfTurn.{cursors_claim, timed_claim, holding_claim, within_claim, alive_claim, marked_claim, marked_more}
+use Rattle.law.proofs.Machine.CellsOfTurn.{marked_stay, marked_advance, note_at, unmarked, contender, tells_none}
+use Rattle.law.proofs.Machine.SlotsOfTurn.{Run, spelled, spells, letter_bit, letter_again, letter_stop, leads, alive_at, some_left}
+use Rattle.law.proofs.Machine.SlotsOfTurn.{run_shape, run_carries, run_bit, run_again}
 use Rattle.law.proofs.Machine.SlotsTellLeast.{task_at, leader_in, loses_at, wins_least, least_wins, stop_side, stop_spells}
 use Rattle.law.proofs.Machine.Invariant.{Ready, Crew, Fit, Spelt, Stands, idle, claims, begun, low, rose, high}
-use Rattle.law.proofs.Machine.TickOfStop.{ending, tells_end, armeds_finished, counts_end, somebody_told, disarmed, tells_unmarked,
-    outcome_at, told_at_stop}
+use Rattle.law.proofs.Machine.TickOfStop.{ending, tells_end, armeds_finished, counts_end, somebody_told, disarmed, tells_unmarked}
+use Rattle.law.proofs.Machine.TickOfStop.{outcome_at, told_at_stop}
 
 asked_to : (k : Option Bool) (h : ℕ) → h ≤ most_count → asked k h ≤ most_count
 asked_to None h b = omega arith
@@ -352,7 +352,7 @@ module _ (W : Script) (D : Side) (left : W.Cursor → ℕ) (Alike : W.Cursor →
       let o : lo (W.symbol a.0) ≡ true = sym (each (W.symbol a.0) a.0) ∙ ap (is_lost W) a.2 in
       let q = contender W l cs g.within i a.0 a.1 in
       let x = loses_at W D left Alike laws l (D.begin s0) k r (cursors W cs) s run i q.0 a.0 q.1 a.1
-          (λ z. behind (W.symbol a.0) o (rank_inj (W.symbol a.0) (lead W (cursors W cs)) (sym z))) in
+      (λ z. behind (W.symbol a.0) o (rank_inj (W.symbol a.0) (lead W (cursors W cs)) (sym z))) in
       record {
         turn = l;
         now = refl;
@@ -497,9 +497,16 @@ module _ (W : Script) (D : Side) (left : W.Cursor → ℕ) (Alike : W.Cursor →
         refl refl high_no (ap (λ x. watch (suc k) true x sp) (marks_late b j m.0 ev))
         (tells_none W (late W j) (late_mute W j j1) cs ∙ ap nobody (sym g.armed))
         (loses_late sp b j m.0 e (λ p. absurd (j2 p))) (inl (omega arith))
-        (high u' os s0 l (marked W never l (stay W j cs)) sp (stay W j cs) k r s b (Some b) 1 (n - 2) refl d (omega arith) (omega arith)
-        (refl, spells_on, record { slots_gone = k; most = omega arith; letters = ap (λ x. x.letters) m.1; side = ap (λ x. x.side) run.runs
-        })
+        (high u' os s0 l (marked W never l (stay W j cs)) sp (stay W j cs) k r s b (Some b) 1 (n - 2) refl d (omega arith) (omega arith) (
+          refl,
+          spells_on,
+          record {
+            slots_gone = k;
+            most = omega arith;
+            letters = ap (λ x. x.letters) m.1;
+            side = ap (λ x. x.side) run.runs;
+          },
+        )
         (crew_stay W j l os cs e j4 g)
         (subst (λ x. Slots l s0 (suc k) r (cursors W (advance W x (stay W j cs))) (D.bit s x)) c
         (run_bit W D left Alike laws (begins W l) (D.begin s0) k r cs s j run g.living e j1 j2)) y)))
@@ -579,7 +586,7 @@ module _ (W : Script) (D : Side) (left : W.Cursor → ℕ) (Alike : W.Cursor →
         stopped : (i : ℕ) (p : W.Task) → at l i ≡ Some p → Stopped W D left l s0 v (tellings W (notes W (late W 1) cs)) i p
         stopped i p a =
             let w : is_some (at (tellings W (notes W (late W 1) cs)) i) ≡ wins W D left p first (D.begin s0) =
-                ap (λ x. is_some (at x i)) (tells_end W cs ∙ told_is) ∙ outcome_at W D left first (D.begin s0) l i p a in
+            ap (λ x. is_some (at x i)) (tells_end W cs ∙ told_is) ∙ outcome_at W D left first (D.begin s0) l i p a in
             record {
               unmarked = ap (λ x. is_some (at x i)) (tells_end W cs) ∙ tells_unmarked W l cs g.within ev i p a
                   ∙ ap (λ x. not (slice_index_or x i false)) (sym m.0);

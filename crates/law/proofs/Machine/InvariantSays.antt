@@ -8,8 +8,8 @@ use Rattle.law.specs.Limits.{ticks_of_turn}
 use Rattle.law.specs.Monitor.{Monitor}
 use Rattle.law.proofs.FarSide.{Side}
 use Rattle.law.proofs.Machine.BusAsMachine.{Bus}
-use Rattle.law.proofs.Machine.PhasesOfSlot.{early_lost, Cell, looks, idling, claimed, opened, lowered, released, fresh, settled,
-    claimed_bus, opened_bus, low_bus, fresh_bus, settled_bus}
+use Rattle.law.proofs.Machine.PhasesOfSlot.{early_lost, Cell, looks, idling, claimed, opened, lowered, released, fresh, settled}
+use Rattle.law.proofs.Machine.PhasesOfSlot.{claimed_bus, opened_bus, low_bus, fresh_bus, settled_bus}
 use Rattle.law.proofs.Machine.BookOfMachine.{Tasks, armeds, pulling}
 use Rattle.law.proofs.Machine.CellsOfTurn.{marked, never, pulls_nothing, armeds_looks}
 use Rattle.law.proofs.Machine.Invariant.{Stands, idle, claims, begun, low, rose, high, fresh_keeps}

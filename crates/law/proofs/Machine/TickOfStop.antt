@@ -1,6 +1,6 @@
 -- The tick of the stop, by the cells: who is told, who stays armed, and that these are whom the book tells.
-use Rattle.std.proofs.Common.{◌≡◌, ℕ, zero, suc, ◌+◌, ◌≤◌, min, Bool, true, false, cond, not, ◌&&◌, eqb, ◌⊎◌, List, [], ◌∷◌, is_some, Some,
-    None, Option, sym, refl, ap, ◌∙◌, ap₂, arith}
+use Rattle.std.proofs.Common.{◌≡◌, ℕ, zero, suc, ◌+◌, ◌≤◌, min, Bool, true, false, cond, not, ◌&&◌, eqb, ◌⊎◌, List, [], ◌∷◌, is_some, Some}
+use Rattle.std.proofs.Common.{None, Option, sym, refl, ap, ◌∙◌, ap₂, arith}
 use Rattle.std.specs.Prelude.{slice_index_or}
 use Rattle.std.proofs.lemmas.Bool.{eqb-true, eq-eqb, ne_eqb}
 use Rattle.master.specs.declared.symbol.Symbol.{Symbol}
@@ -136,9 +136,9 @@ module _ (W : Script) (D : Side) (left : W.Cursor → ℕ) (Alike : W.Cursor →
                   names W (Some p) ≡ cond (wins W D left q (leader W D left l s0) s0) (Some (task_outcome W D left q s0)) None
               two true e =
                   let g : rank (W.symbol p) ≡ rank (lead W (cursors W cs)) =
-                      sym (eqb-true (rank (lead W (cursors W cs))) (rank (W.symbol p)) e) in
+                  sym (eqb-true (rank (lead W (cursors W cs))) (rank (W.symbol p)) e) in
                   let f = stop_names W D left Alike laws l s0 k r (cursors W cs) s run stops i q p a b
-                      (rank_inj (W.symbol p) (lead W (cursors W cs)) g) in
+                  (rank_inj (W.symbol p) (lead W (cursors W cs)) g) in
                   ap (λ z. cond z (Some (W.outcome p)) None) (eq-eqb (rank (W.symbol p)) 1 (g ∙ stops))
                   ∙ ap (λ z. Some (W.outcome z)) (sym f)
                   ∙ sym (ap (λ z. cond z (Some (task_outcome W D left q s0)) None) (wins_if true e))
