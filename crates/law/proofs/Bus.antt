@@ -1,13 +1,12 @@
--- The bus of hosts and devices is such a machine, so its law holds there.
+-- The bus of hosts and devices is such a machine beside its turn book, so the law holds there.
 pub mod HoldsAsOne
 pub mod TickAsMachine
 pub mod HostsAsOne
-pub mod Ranks
 pub mod LeastStringLeads
 pub mod BookAsMachine
 pub mod MonitorAsMachine
-pub mod UseAsMachine
-pub mod CallsAsSteps
+pub mod CallsKeep
+pub mod UseKeepsInvariant
 pub mod RunIsItsTicks
 pub mod CountsOfRun
 pub mod LawOfUse

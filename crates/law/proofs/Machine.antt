@@ -1,4 +1,4 @@
--- The law of a bus of which only scripts, one far side and one hold are known.
+-- A bus of which only scripts, one far side and one hold are known: how its turns go, and the invariant of them.
 pub mod BusAsMachine
 pub mod PhasesOfSlot
 pub mod EventForAll
@@ -19,4 +19,4 @@ pub mod SlotsTellLeast
 pub mod Invariant
 pub mod TickOfStop
 pub mod InvariantKept
-pub mod LawOfMachine
+pub mod InvariantSays

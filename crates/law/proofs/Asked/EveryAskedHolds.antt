@@ -1,5 +1,5 @@
 -- What the ports asked of their devices in a turn: the law of it over every use of a bus.
-use Rattle.std.proofs.Common.{◌≡◌, ℕ, zero, suc, ◌+◌, ◌<◌, Bool, true, false, cond, ◌||◌, List, [], ◌∷◌, ◌++◌, length, map, is_some, Some, None, Option, sym, refl, ap, ap₂, ◌∙◌, subst, inl, inr, arith}
+use Rattle.std.proofs.Common.{◌≡◌, ℕ, zero, suc, ◌+◌, ◌<◌, Bool, true, false, cond, ◌||◌, List, [], ◌∷◌, ◌++◌, length, is_some, Some, None, Option, sym, refl, ap, ap₂, ◌∙◌, subst, inl, inr, arith}
 use Rattle.std.specs.Prelude.{slice_index_or}
 use Rattle.transfer.specs.declared.outcome.OutcomeKind.TheVariants.{Done}
 use Rattle.transfer.specs.Transfer.{TransferModel}
@@ -31,19 +31,20 @@ use Rattle.law.proofs.FarSide.{string, last}
 use Rattle.law.proofs.Alone.CursorsStayAlike.{Alike}
 use Rattle.law.proofs.Asked.ReportedHandedOver.{joined_alone, joined_as, reported_alone}
 use Rattle.law.proofs.Alone.IdleBetweenTurns.{Idle}
-use Rattle.law.proofs.Alone.PortsAsSide.{unheld, ports_side}
+use Rattle.law.proofs.Alone.PortsAsSide.{unheld, ports_side, idle_ports}
 use Rattle.law.proofs.Asked.RecordAfterA.{noted_by, played_reached}
 use Rattle.law.proofs.Alone.SlotsRunOut.{slots_left}
 use Rattle.law.proofs.Alone.PlayedIsCarried.{opened_ports}
 use Rattle.law.proofs.Asked.UnmarkedAsAlone.{ForNow, StillIn as LawStillIn, carried_so_far}
 use Rattle.law.proofs.Asked.NotingBusAlongside.{ports_stay, Alongside, same_event, same_marks, same_told, asked_many, asked_noted, one_more, first_noting, Beside, beside}
-use Rattle.law.proofs.Bus.EveryUseLawful.{StandsAt, every_use_lawful, every_use_stands}
-use Rattle.law.proofs.Bus.BookAsMachine.{contenders, contenders_legal, turn_if}
+use Rattle.law.proofs.Bus.EveryUseLawful.{every_use_lawful, every_use_stands}
+use Rattle.law.proofs.Bus.BookAsMachine.{booked, contenders, contenders_legal, turn_if}
 use Rattle.law.proofs.Bus.LawOfUse.{legal_at}
 use Rattle.law.proofs.Asked.DeviceMaps.{port_places, device_places, ports_to, devices_to, places_to, played_to, spelled_to, carried_devices, carried_outcome}
 use Rattle.law.proofs.Asked.NotesAreAsks.{longer_cancel, forgetting, after_these, length_noted, bare_unnoted, noted_again, noted_after, noted_by_after, noted_unheld, noted_placed, same_holds, with_notes}
 use Rattle.law.proofs.Asked.NothingAskedAtRest.{nothing_at_rest}
-use Rattle.law.proofs.Bus.UseAsMachine.{used_as}
+use Rattle.law.proofs.Bus.TickAsMachine.{seen}
+use Rattle.law.proofs.Bus.UseKeepsInvariant.{StandsAt}
 use Rattle.law.proofs.Asked.ToldTookItsSteps.{tells_own, tells_at_stop, devices_won}
 
 -- who is not marked before a tick and not in it is not marked after it
@@ -176,15 +177,15 @@ module _ (hs : List HostBehaviour) (ds : List Behaviour) where
         abbrev place : ℕ
         place = acknowledge_at t k n
 
-        abbrev goes_on : ForNow transfers (ports_side es) (used_as hs es then).bus (used_as hs es then).book.side (used_as hs es then).watch t
-        goes_on = let z = used_as hs es then in
-            carried_so_far transfers (ports_side es) slots_left Alike IsLegal (Idle es) z.bus z.book.armed z.book.side z.book.turn z.watch st.0 st.1 (contenders hs then.book.entries) (ap (λ v. turn_if v (contenders hs then.book.entries)) turn_too)
+        abbrev goes_on : ForNow transfers (ports_side es) (seen hs es then.bus) (idle_ports es then.book.devices) then.watch t
+        goes_on = let b = booked hs es then.book in
+            carried_so_far transfers (ports_side es) slots_left Alike IsLegal (Idle es) (seen hs es then.bus) b.armed b.side b.turn then.watch st.0 st.1 (contenders hs then.book.entries) (ap (λ v. turn_if v (contenders hs then.book.entries)) turn_too)
             i t (ap (λ b. slice_index_or (contenders hs b.entries) i None) same_book ∙ contends_too i t in_turn.0) (still_in i t in_turn)
 
         spelled : then.watch.spelled ≡ hears.so_far ++ (low ∷ [])
         spelled = ap (λ w. w.spelled) (saw_too ∙ (sym (saw ds x open_turn falls) ∙ ap (monitor_after hs ds x.watch x.book) falls)) ∙ hears.acknowledge
 
-        reached_by : ForNow transfers (ports_side es) (used_as hs es then).bus (used_as hs es then).book.side (used_as hs es then).watch t →
+        reached_by : ForNow transfers (ports_side es) (seen hs es then.bus) (idle_ports es then.book.devices) then.watch t →
             AtSomePort (port_places ds x.bus.ports) (steps_then hs ds x) g.address (Acknowledged g.body n)
         reached_by (inl z) = absurd (let q : length then.watch.spelled ≡ 0 = ap length z in let r = ap (λ l. length l) spelled ∙ one_longer hears.so_far in omega arith)
         reached_by (inr f) =

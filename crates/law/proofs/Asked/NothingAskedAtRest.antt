@@ -14,7 +14,7 @@ use Rattle.law.specs.TransferResult.{AddressedDevice}
 use Rattle.law.specs.Use.{Use, steps_at, no_steps}
 use Rattle.law.proofs.Alone.PortsAsSide.{unheld, idle_port, idle_ports}
 use Rattle.law.proofs.Asked.NotingBusAlongside.{ports_at_rest}
-use Rattle.law.proofs.Bus.EveryUseLawful.{StandsAt}
+use Rattle.law.proofs.Bus.UseKeepsInvariant.{StandsAt}
 
 module _ (b : Behaviour) where
   bit_unheld : (p : PortModel b) (m : Mode) (x : Bool) → steps_at_bit b (unheld b p) m x ≡ steps_at_bit b p m x

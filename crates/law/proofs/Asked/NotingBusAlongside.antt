@@ -1,5 +1,5 @@
 -- A use of the bus, and beside it the use of the same bus over devices that note their steps: both go the same way, and since a turn opened the devices have noted what was asked in it.
-use Rattle.std.proofs.Common.{◌≡◌, ℕ, zero, suc, Bool, true, false, cond, ◌||◌, ltb, ◌⊎◌, List, [], ◌∷◌, ◌++◌, append-nil, ap₂, length, None, Option, sym, refl, ap, ◌∙◌, subst, inl, inr, arith}
+use Rattle.std.proofs.Common.{◌≡◌, ℕ, suc, Bool, true, false, cond, ◌||◌, ◌⊎◌, List, [], ◌∷◌, ◌++◌, append-nil, ap₂, length, None, Option, sym, refl, ap, ◌∙◌, subst, inl, inr, arith}
 use Rattle.transfer.specs.Outcome.{OutcomeModel}
 use Rattle.device.specs.Device.{Behaviour, Step}
 use Rattle.host.specs.Host.{HostBehaviour}
@@ -16,48 +16,28 @@ use Rattle.wire.specs.Wire.{signal, wire_after, busy_after}
 use Rattle.law.specs.AskedLaw.{all_noting_steps, all_steps}
 use Rattle.law.specs.Bank.{Bank, bank_map, bank_list, any_true}
 use Rattle.law.specs.Book.{Entry, entry_is_armed, entry_contending, entries_after_turn, arm_entry_at, Turn, closed, opened, is_open, Book, book_after_opening, told_at_stop, book_after_stop, book_told, book_after}
-use Rattle.law.specs.Bus.{all_pulls, HoldAnswers, ports_step, BusModel, arm_at, levels_at, after_levels, tick_at, told_at, is_at_rest, ClocksInRange}
+use Rattle.law.specs.Bus.{all_pulls, HoldAnswers, ports_step, BusModel, arm_at, levels_at, after_levels, tick_at, told_at, ClocksInRange}
 use Rattle.law.specs.TransferResult.{AddressedDevice}
 use Rattle.law.specs.Monitor.{Monitor, new_monitor, monitor_after_event, monitor_after_marks}
-use Rattle.law.specs.Use.{lists_appended, Call, arms, ticks, runs, Use, event_at, marks_of, steps_at, no_steps, steps_then, use_after_tick, use_after_ticks, use_after_call, use_after, addressed_device, new_use}
+use Rattle.law.specs.Use.{lists_appended, Call, arms, ticks, Use, event_at, marks_of, steps_at, no_steps, steps_then, use_after_tick, use_after_call, use_after, addressed_device, new_use}
 use Rattle.law.specs.Law.{Law}
 use Rattle.law.proofs.FarSide.{Side}
 use Rattle.law.proofs.Alone.CursorsStayAlike.{Alike}
 use Rattle.law.proofs.Alone.IdleBetweenTurns.{Idle}
 use Rattle.law.specs.Legal.{IsLegal}
-use Rattle.law.specs.Limits.{most_ticks}
 use Rattle.law.proofs.Alone.PortsAsSide.{unheld, ports_side, idle_ports}
 use Rattle.law.proofs.Asked.RecordAfterA.{noted_by}
 use Rattle.law.proofs.Alone.SlotsRunOut.{slots_left}
 use Rattle.law.proofs.Machine.BusAsMachine.{Bus}
 use Rattle.law.proofs.Machine.Invariant.{Stands, idle, claims, begun, low, rose, high}
 use Rattle.law.proofs.Machine.BookOfMachine.{Tasks}
-use Rattle.law.proofs.Bus.EveryUseLawful.{StandsAt, every_use_lawful, every_use_stands}
-use Rattle.law.proofs.Bus.BookAsMachine.{contenders, turn_if}
+use Rattle.law.proofs.Bus.CallsKeep.{calls_keep}
+use Rattle.law.proofs.Bus.EveryUseLawful.{every_use_lawful, every_use_stands}
+use Rattle.law.proofs.Bus.BookAsMachine.{booked, contenders, turn_if}
 use Rattle.law.proofs.Asked.DeviceMaps.{pulls_to, port_places, device_places}
 use Rattle.law.proofs.Asked.NotesAreAsks.{longer_longer, length_longer, forgetting, bare_devices, bare_ports, length_noted, noted_unheld, noted_idle, bare_placed, same_holds, steps_noted, steps_bare, with_notes, new_bare}
-use Rattle.law.proofs.Bus.UseAsMachine.{used_as}
-
--- what arms and ticks keep, calls keep
-module _ (hs : List HostBehaviour) (ds : List Behaviour) (P : Use hs ds → Type 0)
-    (armed : (x : Use hs ds) (n : ℕ) → P x → P (use_after_call hs ds x (arms n))) (ticked : (x : Use hs ds) (a : HoldAnswers ds) → P x → P (use_after_tick hs ds x a)) where
-  either_keeps : (v : Bool) (x y : Use hs ds) → P x → P y → P (cond v x y)
-  either_keeps true x y p q = p
-  either_keeps false x y p q = q
-
-  run_keeps : (n k : ℕ) (a : ℕ → HoldAnswers ds) (x : Use hs ds) → P x → P (use_after_ticks hs ds n k a x)
-  run_keeps zero k a x p = p
-  run_keeps (suc n) k a x p = let y = use_after_tick hs ds x (a k) in
-      either_keeps (is_at_rest hs ds x.bus) x (use_after_ticks hs ds n (suc k) a y) p (run_keeps n (suc k) a y (ticked x (a k) p))
-
-  call_keeps : (x : Use hs ds) (c : Call hs ds) → P x → P (use_after_call hs ds x c)
-  call_keeps x (arms n) p = armed x n p
-  call_keeps x (ticks a) p = ticked x a p
-  call_keeps x (runs n a) p = either_keeps (ltb most_ticks n) x (use_after_ticks hs ds n 0 a x) p (run_keeps n 0 a x p)
-
-  pub calls_keep : (x : Use hs ds) (cs : List (Call hs ds)) → P x → P (use_after hs ds x cs)
-  calls_keep x [] p = p
-  calls_keep x (c ∷ cs) p = calls_keep (use_after_call hs ds x c) cs (call_keeps x c p)
+use Rattle.law.proofs.Bus.TickAsMachine.{seen}
+use Rattle.law.proofs.Bus.UseKeepsInvariant.{StandsAt}
 
 module _ (hs : List HostBehaviour) where
   -- the entries and the turn after a tick, by what they were and who is told
@@ -165,8 +145,8 @@ module _ (W : Script) (D : Side) (left : W.Cursor → ℕ) (Same : W.Cursor → 
 
 -- so the ports, but for what they hold, are those of the book's devices
 pub ports_at_rest : (hs : List HostBehaviour) (ds : List Behaviour) (x : Use hs ds) → StandsAt hs ds x → x.book.turn ≡ closed → bank_map unheld ds x.bus.ports ≡ idle_ports ds x.book.devices
-ports_at_rest hs ds x st e = let z = used_as hs ds x in
-    at_rest transfers (ports_side ds) slots_left Alike IsLegal (Idle ds) z.bus z.book.armed z.book.side z.book.turn z.watch st.0 st.1 (ap (λ v. turn_if v (contenders hs x.book.entries)) e)
+ports_at_rest hs ds x st e = let b = booked hs ds x.book in
+    at_rest transfers (ports_side ds) slots_left Alike IsLegal (Idle ds) (seen hs ds x.bus) b.armed b.side b.turn x.watch st.0 st.1 (ap (λ v. turn_if v (contenders hs x.book.entries)) e)
 
 longer_nothing : (ds : List Behaviour) (d : Bank AddressedDevice (all_noting_steps ds)) (p : Bank PortModel ds) → lists_appended (all_steps ds d) (bank_list (λ b q. []) ds p) ≡ all_steps ds d
 longer_nothing [] d p = refl
@@ -390,14 +370,14 @@ module _ (hs : List HostBehaviour) (ds : List Behaviour) where
       law_then cs c = subst (Law hs es) (one_more hs es first_noting cs c) (every_use_lawful hs es ms (with_notes ds ps) clocked (cs ++ (c ∷ [])))
 
       pub beside : (cs : List (Call hs ds)) → Beside (use_after hs ds first cs)
-      beside cs = calls_keep hs ds Beside
-          (λ x n b. record {
+      beside cs = calls_keep hs ds (λ m x. Beside x)
+          (λ m x n b. record {
             calls_made = b.calls_made ++ (arms n ∷ []);
             is = ap (λ z. use_after_call hs ds z (arms n)) b.is ∙ sym (one_more hs ds first b.calls_made (arms n));
             noting_calls = b.noting_calls ++ (arms n ∷ []);
             alongside = subst (λ y. Alongside y (use_after_call hs ds x (arms n))) (sym (one_more hs es first_noting b.noting_calls (arms n))) (armed_alongside (use_after hs es first_noting b.noting_calls) x n b.alongside);
           })
-          (λ x a b.
+          (λ m x a b.
           let cs = b.noting_calls in
           let y = use_after hs es first_noting cs in
           let c = ticks (same_holds ds a) in
@@ -412,5 +392,5 @@ module _ (hs : List HostBehaviour) (ds : List Behaviour) where
             alongside = subst (λ z. Alongside z (use_after_tick hs ds x a)) (sym (one_more hs es first_noting cs c))
                 (ticked_alongside y x a b.alongside (every_use_lawful hs es ms (with_notes ds ps) clocked cs) lx (law_then cs c) nx st);
           })
-          first cs
+          0 first cs
           (record { calls_made = []; is = refl; noting_calls = []; alongside = first_alongside })

@@ -24,10 +24,9 @@ use Rattle.law.proofs.Alone.SlotsRunOut.{slots_left}
 use Rattle.law.proofs.LetterByRank.{same_of}
 use Rattle.law.proofs.Machine.Arbitration.{at}
 use Rattle.law.proofs.Bus.BookAsMachine.{contenders, contenders_legal, contests_of}
-use Rattle.law.proofs.Bus.LeastStringLeads.{LegalIf, carry, lead, lead_legal, least_is}
+use Rattle.law.proofs.Bus.LeastStringLeads.{LegalIf, carry, carried_at, lead, lead_legal, least_is}
 use Rattle.law.proofs.Bus.LawOfUse.{legal_at}
 use Rattle.law.proofs.Asked.DeviceMaps.{idle_same}
-use Rattle.law.proofs.Bus.Ranks.{carried_at}
 
 -- the letter of a slot says what the side takes in it
 module _ (D : Side) where

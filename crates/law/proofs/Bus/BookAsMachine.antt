@@ -1,5 +1,6 @@
--- The turn book as the book of the law, and that both go the same way at every call and event.
-use Rattle.std.proofs.Common.{◌≡◌, ℕ, zero, suc, Bool, true, false, cond, List, [], ◌∷◌, is_some, Some, None, Option, Result, sym, refl, ap, ◌∙◌, ap₂, arith}
+-- The turn book as the machine's book: both go the same way at every arm and event, and hosts hear what the book tells.
+use Rattle.std.proofs.Common.{◌≡◌, ℕ, zero, suc, Bool, true, false, cond, List, [], ◌∷◌, is_some, Some, None, Option, Result, sym, refl, ap}
+use Rattle.std.proofs.Common.{◌∙◌, ap₂, arith}
 use Rattle.std.specs.Option.{option_map}
 use Rattle.transfer.specs.declared.draft.Transfer.{Transfer}
 use Rattle.transfer.specs.Transfer.{TransferModel, transfer_model}
@@ -12,16 +13,19 @@ use Rattle.wire.specs.declared.event.Event.{Event}
 use Rattle.wire.specs.declared.event.Event.TheVariants.{Rise, Fall, Start, Stop, SteadyHigh, SteadyLow}
 use Rattle.master.specs.Arming.{is_armed, arming_after_arm}
 use Rattle.law.specs.Bank.{Bank, bank_map, bank_list, any_true}
-use Rattle.law.specs.Book.{Entry, entry_is_armed, entry_contending, wanted_if, contender_transfer, entry_after_turn, arm_entry_at, entries_after_turn, least_result, outcomes_of_turn, devices_after, Turn, closed, opened, Book, book_arm, contender_results, book_after_opening, told_at_stop, book_after_stop, book_told, book_after}
+use Rattle.law.specs.Book.{Entry, entry_is_armed, entry_contending, wanted_if, contender_transfer, entry_after_turn, arm_entry_at}
+use Rattle.law.specs.Book.{entries_after_turn, least_result, outcomes_of_turn, devices_after, Turn, closed, opened, Book, book_arm}
+use Rattle.law.specs.Book.{contender_results, book_after_opening, told_at_stop, book_after_stop, book_told, book_after}
 use Rattle.law.specs.TransferResult.{AddressedDevice, transfer_result}
 use Rattle.port.specs.Port.{PortModel}
 use Rattle.master.specs.Script.{transfers}
 use Rattle.law.proofs.Alone.PortsAsSide.{ports_side, idle_ports}
 use Rattle.law.proofs.Alone.SealedIsLegal.{legal_transfer}
 use Rattle.law.proofs.Alone.SlotsRunOut.{slots_left}
-use Rattle.law.proofs.Machine.BookOfMachine.{any, answer, answer_if, armed_if, arm_book, nobody, disarm, disarm_one, Book as LawBook, book, feed_arm, feed, stop_tells, book_tells as law_tells}
+use Rattle.law.proofs.Machine.BookOfMachine.{any, answer, answer_if, armed_if, arm_book, nobody, disarm, disarm_one, Book as MachineBook}
+use Rattle.law.proofs.Machine.BookOfMachine.{book, feed, stop_tells, book_tells as machine_tells}
 use Rattle.law.proofs.Bus.LeastStringLeads.{LegalIf, AllLegal, carry_all, lead, told_are, devices_are}
-use Rattle.law.proofs.Bus.HostsAsOne.{Meanings, wants_of, hears_all, all_hosts}
+use Rattle.law.proofs.Bus.HostsAsOne.{Meanings, wants_of, hears_all}
 
 abbrev pub meaning_of : (h : HostBehaviour) → Entry h → h.Meaning
 meaning_of h x = x.meaning
@@ -61,7 +65,8 @@ arms_one : (h : HostBehaviour) (a : Arming (Unit {0})) (w : Option Transfer) →
     wanted_if h (is_armed (arms_by a w).1) w ≡ armed_if (wanted_if h (is_armed a) w) (option_map transfer_model w)
 arms_one h a w = grind arith
 
-pub arm_tasks : (hs : List HostBehaviour) (es : Bank Entry hs) (n : ℕ) → tasks hs (arm_entry_at hs es n).1 ≡ arm_book (tasks hs es) (wants_of hs (meanings hs es)) n
+pub arm_tasks : (hs : List HostBehaviour) (es : Bank Entry hs) (n : ℕ) →
+    tasks hs (arm_entry_at hs es n).1 ≡ arm_book (tasks hs es) (wants_of hs (meanings hs es)) n
 arm_tasks [] es n = refl
 arm_tasks (h ∷ hs) es zero = ap (λ o. o ∷ tasks hs es.1) (arms_one h es.0.arming (h.want es.0.meaning))
 arm_tasks (h ∷ hs) es (suc n) = ap (λ l. task_of h es.0 ∷ l) (arm_tasks hs es.1 n)
@@ -71,7 +76,7 @@ arm_meanings [] es n = refl
 arm_meanings (h ∷ hs) es zero = refl
 arm_meanings (h ∷ hs) es (suc n) = ap (λ r. (es.0.meaning, r)) (arm_meanings hs es.1 n)
 
-pub arm_contenders : (hs : List HostBehaviour) (es : Bank Entry hs) (n : ℕ) → contenders hs (arm_entry_at hs es n).1 ≡ contenders hs es
+arm_contenders : (hs : List HostBehaviour) (es : Bank Entry hs) (n : ℕ) → contenders hs (arm_entry_at hs es n).1 ≡ contenders hs es
 arm_contenders [] es n = refl
 arm_contenders (h ∷ hs) es zero = refl
 arm_contenders (h ∷ hs) es (suc n) = grind (arith, arm_contenders hs es.1 n)
@@ -80,7 +85,8 @@ answers_one : (h : HostBehaviour) (a : Arming (Unit {0})) (w : Option Transfer) 
     (arms_by a w).0 ≡ answer_if (wanted_if h (is_armed a) w) (option_map transfer_model w)
 answers_one h a w k = grind arith
 
-pub arm_answers : (hs : List HostBehaviour) (es : Bank Entry hs) (n : ℕ) → Kept hs es → (arm_entry_at hs es n).0 ≡ answer (tasks hs es) (wants_of hs (meanings hs es)) n
+pub arm_answers : (hs : List HostBehaviour) (es : Bank Entry hs) (n : ℕ) → Kept hs es →
+    (arm_entry_at hs es n).0 ≡ answer (tasks hs es) (wants_of hs (meanings hs es)) n
 arm_answers [] es n k = refl
 arm_answers (h ∷ hs) es zero k = answers_one h es.0.arming (h.want es.0.meaning) k.0
 arm_answers (h ∷ hs) es (suc n) k = arm_answers hs es.1 n k.1
@@ -88,7 +94,7 @@ arm_answers (h ∷ hs) es (suc n) k = arm_answers hs es.1 n k.1
 kept_arms : (a : Arming (Unit {0})) (w : Option Transfer) → WantsIf a w → WantsIf (arms_by a w).1 w
 kept_arms a w k = grind arith
 
-pub arm_kept : (hs : List HostBehaviour) (es : Bank Entry hs) (n : ℕ) → Kept hs es → Kept hs (arm_entry_at hs es n).1
+arm_kept : (hs : List HostBehaviour) (es : Bank Entry hs) (n : ℕ) → Kept hs es → Kept hs (arm_entry_at hs es n).1
 arm_kept [] es n k = tt
 arm_kept (h ∷ hs) es zero k = (kept_arms es.0.arming (h.want es.0.meaning) k.0, k.1)
 arm_kept (h ∷ hs) es (suc n) k = (k.0, arm_kept hs es.1 n k.1)
@@ -114,7 +120,8 @@ enter_kept : (hs : List HostBehaviour) (es : Bank Entry hs) → Kept hs es → K
 enter_kept [] es k = tt
 enter_kept (h ∷ hs) es k = (k.0, enter_kept hs es.1 k.1)
 
-leave_meanings : (hs : List HostBehaviour) (es : Bank Entry hs) (ts : List (Option OutcomeModel)) → meanings hs (entries_after_turn hs es ts) ≡ hears_all hs (meanings hs es) ts
+leave_meanings : (hs : List HostBehaviour) (es : Bank Entry hs) (ts : List (Option OutcomeModel)) →
+    meanings hs (entries_after_turn hs es ts) ≡ hears_all hs (meanings hs es) ts
 leave_meanings [] es ts = refl
 leave_meanings (h ∷ hs) es [] = grind (arith, leave_meanings hs)
 leave_meanings (h ∷ hs) es (t ∷ ts) = grind (arith, leave_meanings hs es.1 ts)
@@ -126,12 +133,14 @@ leave_no_tasks : (hs : List HostBehaviour) (es : Bank Entry hs) → tasks hs (en
 leave_no_tasks [] es = refl
 leave_no_tasks (h ∷ hs) es = grind (arith, leave_no_tasks hs)
 
-leave_tasks : (hs : List HostBehaviour) (es : Bank Entry hs) (ts : List (Option OutcomeModel)) → tasks hs (entries_after_turn hs es ts) ≡ disarm (tasks hs es) ts
+leave_tasks : (hs : List HostBehaviour) (es : Bank Entry hs) (ts : List (Option OutcomeModel)) →
+    tasks hs (entries_after_turn hs es ts) ≡ disarm (tasks hs es) ts
 leave_tasks [] es ts = refl
 leave_tasks (h ∷ hs) es [] = ap (λ l. task_of h es.0 ∷ l) (leave_no_tasks hs es.1)
 leave_tasks (h ∷ hs) es (t ∷ ts) = ap₂ ◌∷◌ (leave_task h es.0 t) (leave_tasks hs es.1 ts)
 
-leave_kept : (hs : List HostBehaviour) (es : Bank Entry hs) (ts : List (Option OutcomeModel)) → Kept hs es → Kept hs (entries_after_turn hs es ts)
+leave_kept : (hs : List HostBehaviour) (es : Bank Entry hs) (ts : List (Option OutcomeModel)) → Kept hs es →
+    Kept hs (entries_after_turn hs es ts)
 leave_kept [] es ts k = tt
 leave_kept (h ∷ hs) es [] k = (k.0, leave_kept hs es.1 [] k.1)
 leave_kept (h ∷ hs) es (o ∷ ts) k = grind (arith, leave_kept hs es.1 ts)
@@ -154,14 +163,26 @@ nobody_is : (hs : List HostBehaviour) (es : Bank Entry hs) → bank_list {X = Op
 nobody_is [] es = refl
 nobody_is (h ∷ hs) es = ap (λ l. None ∷ l) (nobody_is hs es.1)
 
-somebody_leads : (ds : List Behaviour) (d : Bank AddressedDevice ds) (l : List (Option TransferModel)) → any l ≡ true → (q : TransferModel) × (lead ds d l ≡ Some q)
+unheard : (hs : List HostBehaviour) (es : Bank Entry hs) (m : Meanings hs) → hears_all hs m (bank_list (λ h x. None) hs es) ≡ m
+unheard [] es m = refl
+unheard (h ∷ hs) es m = ap (λ r. (m.0, r)) (unheard hs es.1 m.1)
+
+somebody_leads : (ds : List Behaviour) (d : Bank AddressedDevice ds) (l : List (Option TransferModel)) → any l ≡ true →
+    (q : TransferModel) × (lead ds d l ≡ Some q)
 somebody_leads ds d [] h = cc
 somebody_leads ds d (None ∷ l) h = somebody_leads ds d l h
 somebody_leads ds d (Some t ∷ l) h = (_, refl)
 
 module _ (hs : List HostBehaviour) (ds : List Behaviour) where
-  abbrev pub booked : Book hs ds → LawBook transfers (ports_side ds) (all_hosts hs)
-  booked b = book transfers (ports_side ds) (all_hosts hs) (meanings hs b.entries) (tasks hs b.entries) (idle_ports ds b.devices) (turn_if b.turn (contenders hs b.entries))
+  abbrev pub machine_book : List (Option TransferModel) → Bank PortModel ds → Option (List (Option TransferModel)) →
+      MachineBook transfers (ports_side ds)
+  machine_book os s t = book transfers (ports_side ds) os s t
+
+  abbrev pub booked : Book hs ds → MachineBook transfers (ports_side ds)
+  booked b = machine_book (tasks hs b.entries) (idle_ports ds b.devices) (turn_if b.turn (contenders hs b.entries))
+
+  abbrev fed : MachineBook transfers (ports_side ds) → Event → MachineBook transfers (ports_side ds)
+  fed b e = feed transfers (ports_side ds) slots_left b e
 
   -- who is armed wants something, and an open turn has a contender
   pub record Sound (b : Book hs ds) : Type 0 where
@@ -171,53 +192,57 @@ module _ (hs : List HostBehaviour) (ds : List Behaviour) where
   pub contests_of : (b : Book hs ds) → contender_results hs ds b ≡ carry_all ds b.devices (contenders hs b.entries)
   contests_of b = contests_are ds b.devices hs b.entries
 
-  pub armed_booked : (b : Book hs ds) (n : ℕ) → booked (book_arm hs ds b n).1 ≡ feed_arm transfers (ports_side ds) (all_hosts hs) (booked b) n
-  armed_booked b n =
-      let es = b.entries in
-      λ i. book transfers (ports_side ds) (all_hosts hs) (arm_meanings hs es n i) (arm_tasks hs es n i) (idle_ports ds b.devices) (turn_if b.turn (arm_contenders hs es n i))
+  pub armed_booked : (b : Book hs ds) (n : ℕ) → booked (book_arm hs ds b n).1 ≡
+      machine_book (arm_book (tasks hs b.entries) (wants_of hs (meanings hs b.entries)) n) (idle_ports ds b.devices)
+      (turn_if b.turn (contenders hs b.entries))
+  armed_booked b n = let es = b.entries in
+      λ i. machine_book (arm_tasks hs es n i) (idle_ports ds b.devices) (turn_if b.turn (arm_contenders hs es n i))
 
   pub armed_sound : (b : Book hs ds) (n : ℕ) → Sound b → Sound (book_arm hs ds b n).1
-  armed_sound b n k = record { kept = arm_kept hs b.entries n k.kept; contended = λ e. ap any (arm_contenders hs b.entries n) ∙ k.contended e }
+  armed_sound b n k = record {
+    kept = arm_kept hs b.entries n k.kept;
+    contended = λ e. ap any (arm_contenders hs b.entries n) ∙ k.contended e;
+  }
 
   abbrev of_parts : Bank Entry hs → Bank AddressedDevice ds → Turn → Book hs ds
   of_parts es d v = record { entries = es; devices = d; turn = v }
 
-  abbrev law_book : Meanings hs → List (Option TransferModel) → Bank PortModel ds → Option (List (Option TransferModel)) → LawBook transfers (ports_side ds) (all_hosts hs)
-  law_book m os s t = book transfers (ports_side ds) (all_hosts hs) m os s t
-
   opens_if : (es : Bank Entry hs) (d : Bank AddressedDevice ds) (w : Bool) →
-      booked (cond w (of_parts (bank_map entry_contending hs es) d opened) (of_parts es d closed)) ≡ law_book (meanings hs es) (tasks hs es) (idle_ports ds d) (cond w (Some (tasks hs es)) None)
-  opens_if es d true = λ i. law_book (enter_meanings hs es i) (enter_tasks hs es i) (idle_ports ds d) (Some (enter_contenders hs es i))
+      booked (cond w (of_parts (bank_map entry_contending hs es) d opened) (of_parts es d closed)) ≡
+      machine_book (tasks hs es) (idle_ports ds d) (cond w (Some (tasks hs es)) None)
+  opens_if es d true = λ i. machine_book (enter_tasks hs es i) (idle_ports ds d) (Some (enter_contenders hs es i))
   opens_if es d false = refl
 
   opens_booked : (es : Bank Entry hs) (d : Bank AddressedDevice ds) (v : Turn) → Kept hs es →
-      booked (book_after_opening hs ds (of_parts es d v) v) ≡ feed transfers (ports_side ds) slots_left (all_hosts hs) (booked (of_parts es d v)) SteadyHigh
+      booked (book_after_opening hs ds (of_parts es d v) v) ≡ fed (booked (of_parts es d v)) SteadyHigh
   opens_booked es d opened k = refl
   opens_booked es d closed k =
       opens_if es d (any_true (bank_list entry_is_armed hs es))
-      ∙ ap (λ w. law_book (meanings hs es) (tasks hs es) (idle_ports ds d) (cond w (Some (tasks hs es)) None)) (sym (any_armed hs es k))
+      ∙ ap (λ w. machine_book (tasks hs es) (idle_ports ds d) (cond w (Some (tasks hs es)) None)) (sym (any_armed hs es k))
 
   -- whom an open turn tells at its stop
   stop_told : (es : Bank Entry hs) (d : Bank AddressedDevice ds) →
-      told_at_stop hs ds (of_parts es d opened) opened ≡ stop_tells transfers (ports_side ds) slots_left (all_hosts hs) (tasks hs es) (idle_ports ds d) (Some (contenders hs es))
+      told_at_stop hs ds (of_parts es d opened) opened ≡
+      stop_tells transfers (ports_side ds) slots_left (tasks hs es) (idle_ports ds d) (Some (contenders hs es))
   stop_told es d =
       ap (λ cs. outcomes_of_turn ds (least_result ds cs) cs) (contests_of (of_parts es d opened))
       ∙ told_are ds d (contenders hs es) (contenders_legal hs es)
 
   closes_booked : (es : Bank Entry hs) (d : Bank AddressedDevice ds) (v : Turn) → (v ≡ opened → any (contenders hs es) ≡ true) →
-      booked (book_after_stop hs ds (of_parts es d v) v) ≡ feed transfers (ports_side ds) slots_left (all_hosts hs) (booked (of_parts es d v)) Stop
+      booked (book_after_stop hs ds (of_parts es d v) v) ≡ fed (booked (of_parts es d v)) Stop
   closes_booked es d closed h = refl
   closes_booked es d opened h =
       let ts = told_at_stop hs ds (of_parts es d opened) opened in
-      let us = stop_tells transfers (ports_side ds) slots_left (all_hosts hs) (tasks hs es) (idle_ports ds d) (Some (contenders hs es)) in
+      let us = stop_tells transfers (ports_side ds) slots_left (tasks hs es) (idle_ports ds d) (Some (contenders hs es)) in
       let told = stop_told es d in
-      let hosts : meanings hs (entries_after_turn hs es ts) ≡ hears_all hs (meanings hs es) us = leave_meanings hs es ts ∙ ap (hears_all hs (meanings hs es)) told in
-      let armed : tasks hs (entries_after_turn hs es ts) ≡ disarm (tasks hs es) us = leave_tasks hs es ts ∙ ap (disarm (tasks hs es)) told in
+      let armed : tasks hs (entries_after_turn hs es ts) ≡ disarm (tasks hs es) us =
+      leave_tasks hs es ts ∙ ap (disarm (tasks hs es)) told in
       let q = somebody_leads ds d (contenders hs es) (h refl) in
-      let side = ap (λ cs. idle_ports ds (devices_after ds (least_result ds cs) d)) (contests_of (of_parts es d opened)) ∙ devices_are ds d (contenders hs es) q.0 (contenders_legal hs es) q.1 in
-      λ i. law_book (hosts i) (armed i) (side i) None
+      let side = ap (λ cs. idle_ports ds (devices_after ds (least_result ds cs) d)) (contests_of (of_parts es d opened))
+      ∙ devices_are ds d (contenders hs es) q.0 (contenders_legal hs es) q.1 in
+      λ i. machine_book (armed i) (side i) None
 
-  pub fed_booked : (b : Book hs ds) (e : Event) → Sound b → booked (book_after hs ds b e) ≡ feed transfers (ports_side ds) slots_left (all_hosts hs) (booked b) e
+  pub fed_booked : (b : Book hs ds) (e : Event) → Sound b → booked (book_after hs ds b e) ≡ fed (booked b) e
   fed_booked b SteadyHigh k = opens_booked b.entries b.devices b.turn k.kept
   fed_booked b Stop k = closes_booked b.entries b.devices b.turn k.contended
   fed_booked b (Rise x) k = refl
@@ -226,11 +251,12 @@ module _ (hs : List HostBehaviour) (ds : List Behaviour) where
   fed_booked b SteadyLow k = refl
 
   stop_tells_booked : (es : Bank Entry hs) (d : Bank AddressedDevice ds) (v : Turn) →
-      told_at_stop hs ds (of_parts es d v) v ≡ stop_tells transfers (ports_side ds) slots_left (all_hosts hs) (tasks hs es) (idle_ports ds d) (turn_if v (contenders hs es))
+      told_at_stop hs ds (of_parts es d v) v ≡
+      stop_tells transfers (ports_side ds) slots_left (tasks hs es) (idle_ports ds d) (turn_if v (contenders hs es))
   stop_tells_booked es d opened = stop_told es d
   stop_tells_booked es d closed = nobody_is hs es
 
-  pub tells_booked : (b : Book hs ds) (e : Event) → book_told hs ds b e ≡ law_tells transfers (ports_side ds) slots_left (all_hosts hs) (booked b) e
+  pub tells_booked : (b : Book hs ds) (e : Event) → book_told hs ds b e ≡ machine_tells transfers (ports_side ds) slots_left (booked b) e
   tells_booked b Stop = stop_tells_booked b.entries b.devices b.turn
   tells_booked b SteadyHigh = nobody_is hs b.entries
   tells_booked b (Rise x) = nobody_is hs b.entries
@@ -247,11 +273,13 @@ module _ (hs : List HostBehaviour) (ds : List Behaviour) where
   }
   opens_sound es d v false e k = k
 
-  fed_open : (es : Bank Entry hs) (d : Bank AddressedDevice ds) (v : Turn) → Sound (of_parts es d v) → Sound (book_after_opening hs ds (of_parts es d v) v)
+  fed_open : (es : Bank Entry hs) (d : Bank AddressedDevice ds) (v : Turn) → Sound (of_parts es d v) →
+      Sound (book_after_opening hs ds (of_parts es d v) v)
   fed_open es d opened k = k
   fed_open es d closed k = opens_sound es d closed (any_true (bank_list entry_is_armed hs es)) refl k
 
-  fed_closed : (es : Bank Entry hs) (d : Bank AddressedDevice ds) (v : Turn) → Sound (of_parts es d v) → Sound (book_after_stop hs ds (of_parts es d v) v)
+  fed_closed : (es : Bank Entry hs) (d : Bank AddressedDevice ds) (v : Turn) → Sound (of_parts es d v) →
+      Sound (book_after_stop hs ds (of_parts es d v) v)
   fed_closed es d closed k = k
   fed_closed es d opened k = record {
     kept = leave_kept hs es (told_at_stop hs ds (of_parts es d opened) opened) k.kept;
@@ -265,3 +293,28 @@ module _ (hs : List HostBehaviour) (ds : List Behaviour) where
   fed_sound b Fall k = k
   fed_sound b Start k = k
   fed_sound b SteadyLow k = k
+
+  -- hosts hear what the book tells
+  opens_heard : (es : Bank Entry hs) (d : Bank AddressedDevice ds) (v : Turn) →
+      meanings hs (book_after_opening hs ds (of_parts es d v) v).entries ≡ meanings hs es
+  opens_heard es d opened = refl
+  opens_heard es d closed = go (any_true (bank_list entry_is_armed hs es)) where
+    go : (w : Bool) → meanings hs (cond w (of_parts (bank_map entry_contending hs es) d opened) (of_parts es d closed)).entries ≡
+        meanings hs es
+    go true = enter_meanings hs es
+    go false = refl
+
+  closes_heard : (es : Bank Entry hs) (d : Bank AddressedDevice ds) (v : Turn) →
+      meanings hs (book_after_stop hs ds (of_parts es d v) v).entries ≡
+      hears_all hs (meanings hs es) (told_at_stop hs ds (of_parts es d v) v)
+  closes_heard es d opened = leave_meanings hs es (told_at_stop hs ds (of_parts es d opened) opened)
+  closes_heard es d closed = sym (unheard hs es (meanings hs es))
+
+  pub heard_after : (b : Book hs ds) (e : Event) →
+      meanings hs (book_after hs ds b e).entries ≡ hears_all hs (meanings hs b.entries) (book_told hs ds b e)
+  heard_after b Stop = closes_heard b.entries b.devices b.turn
+  heard_after b SteadyHigh = opens_heard b.entries b.devices b.turn ∙ sym (unheard hs b.entries (meanings hs b.entries))
+  heard_after b (Rise x) = sym (unheard hs b.entries (meanings hs b.entries))
+  heard_after b Fall = sym (unheard hs b.entries (meanings hs b.entries))
+  heard_after b Start = sym (unheard hs b.entries (meanings hs b.entries))
+  heard_after b SteadyLow = sym (unheard hs b.entries (meanings hs b.entries))

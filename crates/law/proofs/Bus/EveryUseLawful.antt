@@ -1,101 +1,106 @@
 -- The making of a bus, and the law over every use from it.
-use Rattle.std.proofs.Common.{◌≡◌, ℕ, max, false, List, [], ◌∷◌, None, sym, refl, ap, ◌∙◌, subst, arith}
+use Rattle.std.proofs.Common.{◌≡◌, ℕ, zero, suc, max, List, [], ◌∷◌, None, refl, ap, arith}
 use Rattle.device.specs.Device.{Behaviour}
 use Rattle.host.specs.Host.{HostBehaviour}
 use Rattle.law.specs.Bus.{ClocksInRange}
 use Rattle.law.specs.Bank.{Bank, bank_map, bank_list}
 use Rattle.master.specs.Master.{HostedMaster, hosted_new}
+use Rattle.master.specs.MasterState.{new_master}
+use Rattle.master.specs.Script.{transfers}
 use Rattle.port.specs.Port.{reset_port, PortModel}
 use Rattle.law.specs.Use.{Call, Use, use_after, new_entry, addressed_device, new_use}
 use Rattle.law.specs.Law.{EveryUse}
-use Rattle.master.specs.Script.{transfers}
-use Rattle.law.proofs.Alone.CursorsStayAlike.{Alike, cursor_laws}
-use Rattle.law.proofs.Alone.IdleBetweenTurns.{Idle}
 use Rattle.law.specs.Legal.{IsLegal}
+use Rattle.law.specs.Limits.{ticks_of_turn}
 use Rattle.law.proofs.Alone.PortsAsSide.{unheld, ports_side, idle_ports}
-use Rattle.law.proofs.Alone.SlotsRunOut.{slots_left}
-use Rattle.law.proofs.Machine.LawOfMachine.{every_use, every_stands}
-use Rattle.law.proofs.Machine.Invariant.{Stands}
-use Rattle.law.proofs.Machine.BookOfMachine.{Clocks, armeds, fresh_masters, book, watch, spell, made as law_made, Law as LawLaw}
-use Rattle.law.proofs.Bus.BookAsMachine.{meanings, tasks, Kept}
+use Rattle.law.proofs.Machine.BookOfMachine.{count}
+use Rattle.law.proofs.Machine.CellsOfTurn.{cell_armeds, Holding}
+use Rattle.law.proofs.Machine.Invariant.{Ready, idle}
+use Rattle.law.proofs.Machine.PhasesOfSlot.{Cell, out, looks, idling, Timed, free_bus}
+use Rattle.law.proofs.Bus.BookAsMachine.{meanings, tasks, Kept as KeptEntries}
 use Rattle.law.proofs.Bus.HoldsAsOne.{longest_hold}
-use Rattle.law.proofs.Bus.HostsAsOne.{all_hosts, plays}
 use Rattle.law.proofs.Bus.LawOfUse.{lawful}
-use Rattle.law.proofs.Bus.CallsAsSteps.{reached}
-use Rattle.law.proofs.Bus.TickAsMachine.{masters_of}
-use Rattle.law.proofs.Bus.UseAsMachine.{hosts_of, law_use, used_as, Good, law_uses}
+use Rattle.law.proofs.Bus.TickAsMachine.{masters_of, seen}
+use Rattle.law.proofs.Bus.UseKeepsInvariant.{hosts_of, Kept, StandsAt, calls_stay}
 
-abbrev clock_of : (h : HostBehaviour) → HostedMaster h → ℕ × ℕ
-clock_of h x = (x.master.low, x.master.high)
+-- new masters, all of them out
+abbrev new_cell : (h : HostBehaviour) → HostedMaster h → Cell transfers
+new_cell h x = out (new_master transfers x.master.low x.master.high)
 
-clocks_fit : (hs : List HostBehaviour) (ms : Bank HostedMaster hs) → ClocksInRange hs ms → Clocks (bank_list clock_of hs ms)
-clocks_fit [] ms c = tt
-clocks_fit (h ∷ hs) ms c = (c.0, clocks_fit hs ms.1 c.1)
+abbrev new_cells : (hs : List HostBehaviour) → Bank HostedMaster hs → List (Cell transfers)
+new_cells hs ms = bank_list new_cell hs ms
 
-new_masters : (hs : List HostBehaviour) (ms : Bank HostedMaster hs) → masters_of hs (bank_map hosted_new hs ms) ≡ fresh_masters transfers (bank_list clock_of hs ms)
+new_masters : (hs : List HostBehaviour) (ms : Bank HostedMaster hs) →
+    masters_of hs (bank_map hosted_new hs ms) ≡ looks transfers (idling transfers) (new_cells hs ms)
 new_masters [] ms = refl
 new_masters (h ∷ hs) ms = grind (arith, new_masters hs)
 
-new_hosts : (hs : List HostBehaviour) (ms : Bank HostedMaster hs) → hosts_of hs (bank_map hosted_new hs ms) ≡ hosts_of hs ms
+new_timed : (hs : List HostBehaviour) (ms : Bank HostedMaster hs) → ClocksInRange hs ms → Timed transfers (new_cells hs ms)
+new_timed [] ms c = tt
+new_timed (h ∷ hs) ms c = grind (arith, new_timed hs)
+
+new_holding : (hs : List HostBehaviour) (ms : Bank HostedMaster hs) → Holding transfers (new_cells hs ms)
+new_holding [] ms = tt
+new_holding (h ∷ hs) ms = new_holding hs ms.1
+
+new_tasks : (hs : List HostBehaviour) (ms : Bank HostedMaster hs) →
+    tasks hs (bank_map new_entry hs ms) ≡ cell_armeds transfers (new_cells hs ms)
+new_tasks [] ms = refl
+new_tasks (h ∷ hs) ms = ap (λ l. None ∷ l) (new_tasks hs ms.1)
+
+-- nobody is armed
+new_ready : (hs : List HostBehaviour) (ms : Bank HostedMaster hs) → Ready IsLegal (tasks hs (bank_map new_entry hs ms))
+new_ready [] ms i t e = cc
+new_ready (h ∷ hs) ms zero t e = cc
+new_ready (h ∷ hs) ms (suc i) t e = new_ready hs ms.1 i t e
+
+new_count : (hs : List HostBehaviour) (ms : Bank HostedMaster hs) → count (tasks hs (bank_map new_entry hs ms)) ≡ 0
+new_count [] ms = refl
+new_count (h ∷ hs) ms = new_count hs ms.1
+
+new_hosts : (hs : List HostBehaviour) (ms : Bank HostedMaster hs) →
+    hosts_of hs (bank_map hosted_new hs ms) ≡ meanings hs (bank_map new_entry hs ms)
 new_hosts [] ms = refl
-new_hosts (h ∷ hs) ms = grind (arith, new_hosts hs)
+new_hosts (h ∷ hs) ms = ap (λ r. (ms.0.meaning, r)) (new_hosts hs ms.1)
 
-no_holds : (ds : List Behaviour) (ps : Bank PortModel ds) → longest_hold ds (bank_map reset_port ds ps) ≡ 0
-no_holds [] ps = refl
-no_holds (b ∷ ds) ps = ap (λ n. max 0 n) (no_holds ds ps.1)
+new_kept : (hs : List HostBehaviour) (ms : Bank HostedMaster hs) → KeptEntries hs (bank_map new_entry hs ms)
+new_kept [] ms = tt
+new_kept (h ∷ hs) ms = (tt, new_kept hs ms.1)
 
-module _ (hs : List HostBehaviour) (ds : List Behaviour) where
-  new_ports : (es : List Behaviour) (ps : Bank PortModel es) → bank_map unheld es (bank_map reset_port es ps) ≡ idle_ports es (bank_map addressed_device es ps)
-  new_ports [] ps = refl
-  new_ports (b ∷ es) ps = grind (arith, new_ports es)
+new_ports : (ds : List Behaviour) (ps : Bank PortModel ds) →
+    bank_map unheld ds (bank_map reset_port ds ps) ≡ idle_ports ds (bank_map addressed_device ds ps)
+new_ports [] ps = refl
+new_ports (b ∷ ds) ps = grind (arith, new_ports ds)
 
-  new_meanings : (gs : List HostBehaviour) (ms : Bank HostedMaster gs) → meanings gs (bank_map (new_entry) gs ms) ≡ hosts_of gs ms
-  new_meanings [] ms = refl
-  new_meanings (h ∷ gs) ms = grind (arith, new_meanings gs)
+new_holds : (ds : List Behaviour) (ps : Bank PortModel ds) → longest_hold ds (bank_map reset_port ds ps) ≡ 0
+new_holds [] ps = refl
+new_holds (b ∷ ds) ps = ap (λ n. max 0 n) (new_holds ds ps.1)
 
-  new_tasks : (gs : List HostBehaviour) (ms : Bank HostedMaster gs) → tasks gs (bank_map (new_entry) gs ms) ≡ armeds transfers (fresh_masters transfers (bank_list clock_of gs ms))
-  new_tasks [] ms = refl
-  new_tasks (h ∷ gs) ms = ap (λ l. None ∷ l) (new_tasks gs ms.1)
+module _ (hs : List HostBehaviour) (ds : List Behaviour) (ms : Bank HostedMaster hs) (ps : Bank PortModel ds)
+    (clocks : ClocksInRange hs ms) where
+  abbrev first : Use hs ds
+  first = new_use hs ds ms ps
 
-  new_kept : (gs : List HostBehaviour) (ms : Bank HostedMaster gs) → Kept gs (bank_map (new_entry) gs ms)
-  new_kept [] ms = tt
-  new_kept (h ∷ gs) ms = (tt, new_kept gs ms.1)
+  first_seen : seen hs ds first.bus ≡ free_bus transfers (ports_side ds) (new_cells hs ms) (idle_ports ds first.book.devices)
+  first_seen = λ i. record { wire = first.bus.wire; masters = new_masters hs ms i; side = new_ports ds ps i; hold = new_holds ds ps i }
 
-  begins_good : (ms : Bank HostedMaster hs) (ps : Bank PortModel ds) → Good hs ds (new_use hs ds ms ps)
-  begins_good ms ps = record {
-    let_go = λ e. no_holds ds ps;
+  first_kept : Kept hs ds first ticks_of_turn
+  first_kept = record {
+    let_go = λ e. new_holds ds ps;
     sound = record { kept = new_kept hs ms; contended = λ e. cc };
+    stands = idle (seen hs ds first.bus) (tasks hs first.book.entries) (idle_ports ds first.book.devices) first.watch (new_cells hs ms)
+        first_seen (new_tasks hs ms) (new_timed hs ms clocks) (new_holding hs ms)
+        (record { devices = first.book.devices; ports_are = refl }) (new_ready hs ms);
+    hosts = new_hosts hs ms;
+    counts = let z = new_count hs ms in omega arith;
   }
 
-  abbrev rest : Bank PortModel ds → Bank PortModel ds
-  rest ps = idle_ports ds (bank_map addressed_device ds ps)
+  -- the invariant at every point of every use
+  kept_at : (cs : List (Call hs ds)) → (n : ℕ) × Kept hs ds (use_after hs ds first cs) n
+  kept_at cs = calls_stay hs ds first cs ticks_of_turn first_kept
 
-  begins_as : (ms : Bank HostedMaster hs) (ps : Bank PortModel ds) → used_as hs ds (new_use hs ds ms ps) ≡ law_made transfers (ports_side ds) (all_hosts hs) (bank_list clock_of hs ms) (hosts_of hs ms) (rest ps)
-  begins_as ms ps = λ i.
-      law_use hs ds (new_hosts hs ms i)
-      (record { wire = (new_use hs ds ms ps).bus.wire; masters = new_masters hs ms i; side = new_ports ds ps i; hold = no_holds ds ps i })
-      (book transfers (ports_side ds) (all_hosts hs) (new_meanings hs ms i) (new_tasks hs ms i) (rest ps) None)
-      (watch 0 false [] (spell None [])) 0 0
+  pub every_use_lawful : EveryUse hs ds ms ps
+  every_use_lawful cs = let k = kept_at cs in lawful hs ds (use_after hs ds first cs) k.0 k.1
 
-  -- the law over every use of a bus
-  pub every_use_lawful : (ms : Bank HostedMaster hs) (ps : Bank PortModel ds) → ClocksInRange hs ms → EveryUse hs ds ms ps
-  every_use_lawful ms ps c cs =
-      let x = new_use hs ds ms ps in
-      let w = reached hs ds x cs (begins_good ms ps) in
-      let all = every_use transfers (ports_side ds) slots_left (all_hosts hs) Alike IsLegal (Idle ds) cursor_laws (plays hs ds) (bank_list clock_of hs ms) (hosts_of hs ms) (rest ps)
-      (clocks_fit hs ms c) (record { devices = bank_map addressed_device ds ps; ports_are = refl }) in
-      let as_law : used_as hs ds (use_after hs ds x cs) ≡ law_uses hs ds (law_made transfers (ports_side ds) (all_hosts hs) (bank_list clock_of hs ms) (hosts_of hs ms) (rest ps)) w.steps = w.as_law ∙ ap (λ y. law_uses hs ds y w.steps) (begins_as ms ps) in
-      lawful hs ds (use_after hs ds x cs) w.good (subst (LawLaw transfers (ports_side ds) slots_left (all_hosts hs)) (sym as_law) (all w.steps w.held))
-
-  -- the invariant of the machine of the law, of a use
-  abbrev pub StandsAt : Use hs ds → Type 0
-  StandsAt y = let x = used_as hs ds y in (n : ℕ) × Stands transfers (ports_side ds) slots_left Alike IsLegal (Idle ds) x.bus x.book.armed x.book.side x.book.turn x.watch n
-
-  pub every_use_stands : (ms : Bank HostedMaster hs) (ps : Bank PortModel ds) → ClocksInRange hs ms → (cs : List (Call hs ds)) → StandsAt (use_after hs ds (new_use hs ds ms ps) cs)
-  every_use_stands ms ps c cs =
-      let x = new_use hs ds ms ps in
-      let w = reached hs ds x cs (begins_good ms ps) in
-      let all = every_stands transfers (ports_side ds) slots_left (all_hosts hs) Alike IsLegal (Idle ds) cursor_laws (plays hs ds) (bank_list clock_of hs ms) (hosts_of hs ms) (rest ps)
-      (clocks_fit hs ms c) (record { devices = bank_map addressed_device ds ps; ports_are = refl }) w.steps w.held in
-      let as_law : used_as hs ds (use_after hs ds x cs) ≡ law_uses hs ds (law_made transfers (ports_side ds) (all_hosts hs) (bank_list clock_of hs ms) (hosts_of hs ms) (rest ps)) w.steps = w.as_law ∙ ap (λ y. law_uses hs ds y w.steps) (begins_as ms ps) in
-      subst (λ y. (n : ℕ) × Stands transfers (ports_side ds) slots_left Alike IsLegal (Idle ds) y.bus y.book.armed y.book.side y.book.turn y.watch n) (sym as_law) all
+  pub every_use_stands : (cs : List (Call hs ds)) → StandsAt hs ds (use_after hs ds first cs)
+  every_use_stands cs = let k = kept_at cs in (k.0, k.1.stands)

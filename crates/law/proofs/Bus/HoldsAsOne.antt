@@ -40,7 +40,8 @@ lowered (b ∷ ds) p o i a = omega (arith, lowered ds p.1 o i a.1)
 
 -- an event that asks nothing leaves the holds
 still : (ds : List Behaviour) (p : Bank PortModel ds) (e : Event) (o : Option Bool) (i : Bool) (a : HoldAnswers ds) →
-    (e ≡ SteadyLow → ⊥) → asked_hold e o 1 ≡ 0 → longest_hold ds (ports_step ds p (record { event = e; bit = o; free_and_high = i }) a) ≡ longest_hold ds p
+    (e ≡ SteadyLow → ⊥) → asked_hold e o 1 ≡ 0 →
+    longest_hold ds (ports_step ds p (record { event = e; bit = o; free_and_high = i }) a) ≡ longest_hold ds p
 still [] p e o i a n q = refl
 still (b ∷ ds) p e o i a n q = grind (arith, still ds p.1 e o i a.1 n q)
 
@@ -48,7 +49,8 @@ still (b ∷ ds) p e o i a n q = grind (arith, still ds p.1 e o i a.1 n q)
 pub hold_follows : (ds : List Behaviour) (p : Bank PortModel ds) (e : Event) (o : Option Bool) (i : Bool) (a : HoldAnswers ds) →
     (e ≡ Fall → longest_hold ds p ≡ 0) →
     longest_hold ds (ports_step ds p (record { event = e; bit = o; free_and_high = i }) a) ≡
-    hold_after (longest_hold ds p) e o (asked_hold e o (longest_hold ds (ports_step ds p (record { event = e; bit = o; free_and_high = i }) a)))
+    hold_after (longest_hold ds p) e o
+    (asked_hold e o (longest_hold ds (ports_step ds p (record { event = e; bit = o; free_and_high = i }) a)))
 hold_follows ds p e o i a h = grind (arith, still ds p e o i a, lowered ds p o i a)
 
 module _ (b : Behaviour) where
@@ -57,7 +59,7 @@ module _ (b : Behaviour) where
   small_counts p m x h k e = grind arith
 
 -- a hold that is asked for is at most most_count
-pub asked_small : (ds : List Behaviour) (p : Bank PortModel ds) (x i : Bool) (a : HoldAnswers ds) → longest_hold ds p ≤ most_count →
+asked_small : (ds : List Behaviour) (p : Bank PortModel ds) (x i : Bool) (a : HoldAnswers ds) → longest_hold ds p ≤ most_count →
     longest_hold ds (ports_step ds p (record { event = Fall; bit = Some x; free_and_high = i }) a) ≤ most_count
 asked_small [] p x i a h = omega arith
 asked_small (b ∷ ds) p x i a h =
@@ -65,7 +67,8 @@ asked_small (b ∷ ds) p x i a h =
     let rest = asked_small ds p.1 x i a.1 (omega arith) in
     omega arith
 
-pub answers_small : (ds : List Behaviour) (p : Bank PortModel ds) (e : Event) (o : Option Bool) (i : Bool) (a : HoldAnswers ds) → (e ≡ Fall → longest_hold ds p ≡ 0) →
+pub answers_small : (ds : List Behaviour) (p : Bank PortModel ds) (e : Event) (o : Option Bool) (i : Bool) (a : HoldAnswers ds) →
+    (e ≡ Fall → longest_hold ds p ≡ 0) →
     asked_hold e o (longest_hold ds (ports_step ds p (record { event = e; bit = o; free_and_high = i }) a)) ≤ most_count
 answers_small ds p Fall None i a h = omega arith
 answers_small ds p Fall (Some x) i a h = asked_small ds p x i a (omega (arith, h refl))

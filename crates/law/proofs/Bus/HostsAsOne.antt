@@ -1,5 +1,5 @@
--- All hosts together, and that transfers, hosts and ports are such as the law asks for.
-use Rattle.std.proofs.Common.{◌≡◌, ℕ, zero, suc, List, [], ◌∷◌, Some, None, Option, refl, ap, subst, le_refl, arith}
+-- What all hosts together want and hear, and that transfers and ports are such as the machine asks for.
+use Rattle.std.proofs.Common.{◌≡◌, ℕ, zero, suc, List, [], ◌∷◌, Some, None, Option, subst, le_refl}
 use Rattle.std.specs.Option.{option_map}
 use Rattle.transfer.specs.declared.draft.Transfer.{Transfer}
 use Rattle.transfer.specs.Transfer.{TransferModel, transfer_model}
@@ -15,7 +15,7 @@ use Rattle.law.proofs.Alone.PortsAsSide.{ports_side}
 use Rattle.law.proofs.Alone.SealedIsLegal.{legal_transfer}
 use Rattle.law.proofs.Alone.SlotsRunOut.{slots_left, at_most}
 use Rattle.law.proofs.Machine.Arbitration.{at}
-use Rattle.law.proofs.Machine.BookOfMachine.{Hosts, Plays}
+use Rattle.law.proofs.Machine.BookOfMachine.{Plays}
 
 abbrev pub Meanings : List HostBehaviour → Type 0
 Meanings hs = Bank (λ h. h.Meaning) hs
@@ -36,30 +36,17 @@ hears_all [] m ts = tt
 hears_all (h ∷ hs) m [] = (m.0, hears_all hs m.1 [])
 hears_all (h ∷ hs) m (t ∷ ts) = (hears_one h m.0 t, hears_all hs m.1 ts)
 
-abbrev pub all_hosts : List HostBehaviour → Hosts transfers
-all_hosts hs = record { State = Meanings hs; wants = wants_of hs; hear = hears_all hs }
-
 legal_want : (w : Option Transfer) (t : TransferModel) → option_map transfer_model w ≡ Some t → IsLegal t
 legal_want None t e = cc
 legal_want (Some v) t e = let same : transfer_model v ≡ t = cc in subst IsLegal same (legal_transfer v)
 
-legal_wants : (hs : List HostBehaviour) (m : Meanings hs) (i : ℕ) (t : TransferModel) → at (wants_of hs m) i ≡ Some t → IsLegal t
+pub legal_wants : (hs : List HostBehaviour) (m : Meanings hs) (i : ℕ) (t : TransferModel) → at (wants_of hs m) i ≡ Some t → IsLegal t
 legal_wants [] m i t e = cc
 legal_wants (h ∷ hs) m zero t e = legal_want (h.want m.0) t e
 legal_wants (h ∷ hs) m (suc i) t e = legal_wants hs m.1 i t e
 
-unheard_one : (h : HostBehaviour) (m : h.Meaning) (t : Option OutcomeModel) → t ≡ None → hears_one h m t ≡ m
-unheard_one h m t k = grind arith
-
-unheard_all : (hs : List HostBehaviour) (m : Meanings hs) (ts : List (Option OutcomeModel)) → ((i : ℕ) → at ts i ≡ None) → hears_all hs m ts ≡ m
-unheard_all [] m ts e = refl
-unheard_all (h ∷ hs) m [] e = ap (λ r. (m.0, r)) (unheard_all hs m.1 [] e)
-unheard_all (h ∷ hs) m (t ∷ ts) e = λ j. (unheard_one h m.0 t (e 0) j, unheard_all hs m.1 ts (λ i. e (suc i)) j)
-
-pub plays : (hs : List HostBehaviour) (ds : List Behaviour) → Plays transfers (ports_side ds) slots_left (all_hosts hs) Alike IsLegal (Idle ds)
-plays hs ds = record {
-  wants = legal_wants hs;
-  unheard = unheard_all hs;
+pub plays : (ds : List Behaviour) → Plays transfers (ports_side ds) slots_left Alike IsLegal (Idle ds)
+plays ds = record {
   alike = open_alike;
   short = at_most;
   quiet = λ t s k h n. quiet_from_idle ds t s n k h;

@@ -1,5 +1,7 @@
--- Who leads by the letters of carried alone is who leads slot by slot.
-use Rattle.std.proofs.Common.{◌≡◌, Bool, cond, List, [], ◌∷◌, map, Some, None, Option, sym, refl, ap, ◌∙◌, subst, ap₂, arith}
+-- Who leads by the letters of carried alone is who leads slot by slot; and who is carried is a contender.
+use Rattle.std.proofs.Common.{◌≡◌, ℕ, zero, suc, Bool, cond, List, [], ◌∷◌, map, Some, None, Option, sym, refl, ap, ◌∙◌, subst, ap₂}
+use Rattle.std.proofs.Common.{le_refl, arith}
+use Rattle.std.specs.Prelude.{slice_index_or}
 use Rattle.std.specs.Option.{option_map}
 use Rattle.transfer.specs.Transfer.{TransferModel}
 use Rattle.device.specs.Device.{Behaviour}
@@ -13,6 +15,7 @@ use Rattle.law.proofs.Alone.PlayedIsCarried.{opened_ports, agrees}
 use Rattle.law.specs.Legal.{IsLegal}
 use Rattle.law.proofs.Alone.PortsAsSide.{ports_side, idle_ports}
 use Rattle.law.proofs.Alone.SlotsRunOut.{slots_left}
+use Rattle.law.proofs.Machine.Arbitration.{at}
 use Rattle.law.proofs.Machine.BookOfMachine.{task_string, task_outcome, task_side, pick, leader, wins, outcomes, leader_side}
 
 abbrev pub LegalIf : Option TransferModel → Type 0
@@ -39,10 +42,12 @@ module _ (ds : List Behaviour) (d : Bank AddressedDevice ds) where
   pub text_is : (t : TransferModel) → IsLegal t → text t ≡ (carry t).letters
   text_is t k = (agrees ds t d k).same_letters
 
-  pub lexb_is : (t u : TransferModel) → IsLegal t → IsLegal u → first_or_same (text t) (text u) ≡ first_or_same (carry t).letters (carry u).letters
+  pub lexb_is : (t u : TransferModel) → IsLegal t → IsLegal u →
+      first_or_same (text t) (text u) ≡ first_or_same (carry t).letters (carry u).letters
   lexb_is t u k l = ap₂ first_or_same (text_is t k) (text_is u l)
 
-  pub same_is : (t u : TransferModel) → IsLegal t → IsLegal u → same_string (text t) (text u) ≡ same_string (carry t).letters (carry u).letters
+  pub same_is : (t u : TransferModel) → IsLegal t → IsLegal u →
+      same_string (text t) (text u) ≡ same_string (carry t).letters (carry u).letters
   same_is t u k l = ap₂ same_string (text_is t k) (text_is u l)
 
   abbrev pub lead : List (Option TransferModel) → Option TransferModel
@@ -55,17 +60,20 @@ module _ (ds : List Behaviour) (d : Bank AddressedDevice ds) where
   carry_cond : (b : Bool) (t u : TransferModel) → carry (cond b t u) ≡ cond b (carry t) (carry u)
   carry_cond b t u = grind arith
 
-  pick_is : (t : TransferModel) (o : Option TransferModel) → IsLegal t → LegalIf o → carry (pick transfers (ports_side ds) slots_left t o side) ≡ first_of_two ds (carry t) (option_map carry o)
+  pick_is : (t : TransferModel) (o : Option TransferModel) → IsLegal t → LegalIf o →
+      carry (pick transfers (ports_side ds) slots_left t o side) ≡ first_of_two ds (carry t) (option_map carry o)
   pick_is t None k l = refl
   pick_is t (Some u) k l = carry_cond (first_or_same (text t) (text u)) t u ∙ ap (λ v. cond v (carry t) (carry u)) (lexb_is t u k l)
 
   pub least_is : (l : List (Option TransferModel)) → AllLegal l → least_result ds (carry_all l) ≡ option_map carry (lead l)
   least_is [] k = refl
   least_is (None ∷ l) k = least_is l k.1
-  least_is (Some t ∷ l) k = ap (λ o. Some (first_of_two ds (carry t) o)) (least_is l k.1) ∙ ap (λ c. Some c) (sym (pick_is t (lead l) k.0 (lead_legal l k.1)))
+  least_is (Some t ∷ l) k = ap (λ o. Some (first_of_two ds (carry t) o)) (least_is l k.1)
+      ∙ ap (λ c. Some c) (sym (pick_is t (lead l) k.0 (lead_legal l k.1)))
 
   told_one : (t u : TransferModel) → IsLegal t → IsLegal u →
-      cond (wins transfers (ports_side ds) slots_left t (Some u) side) (Some (task_outcome transfers (ports_side ds) slots_left t side)) None ≡ outcome_if_least ds (carry u) (Some (carry t))
+      cond (wins transfers (ports_side ds) slots_left t (Some u) side)
+      (Some (task_outcome transfers (ports_side ds) slots_left t side)) None ≡ outcome_if_least ds (carry u) (Some (carry t))
   told_one t u k l = ap₂ (λ v o. cond v (Some o) None) (same_is t u k l) (agrees ds t d k).same_outcome
 
   pub outcomes_are : (l : List (Option TransferModel)) (q : Option TransferModel) → AllLegal l → LegalIf q →
@@ -78,7 +86,8 @@ module _ (ds : List Behaviour) (d : Bank AddressedDevice ds) where
   outcomes_are (Some t ∷ l) (Some u) k g = ap₂ ◌∷◌ (told_one t u k.0 g) (outcomes_are l (Some u) k.1 g)
 
   -- whom a stop tells
-  pub told_are : (l : List (Option TransferModel)) → AllLegal l → outcomes_of_turn ds (least_result ds (carry_all l)) (carry_all l) ≡ outcomes transfers (ports_side ds) slots_left l (lead l) side
+  pub told_are : (l : List (Option TransferModel)) → AllLegal l →
+      outcomes_of_turn ds (least_result ds (carry_all l)) (carry_all l) ≡ outcomes transfers (ports_side ds) slots_left l (lead l) side
   told_are l k = ap (λ q. outcomes_of_turn ds q (carry_all l)) (least_is l k) ∙ sym (outcomes_are l (lead l) k (lead_legal l k))
 
   -- the devices after it; without a contender nothing is carried
@@ -92,3 +101,21 @@ module _ (ds : List Behaviour) (d : Bank AddressedDevice ds) where
       ∙ (after_one q (legal e) ∙ ap (λ o. leader_side transfers (ports_side ds) slots_left o side) (sym e)) where
         legal : lead l ≡ Some q → IsLegal q
         legal e = subst LegalIf e (lead_legal l k)
+
+  mapped_some : (o : Option TransferModel) (c : TransferResult ds) → option_map (carry) o ≡ Some c →
+      (t : TransferModel) × (o ≡ Some t) × (c ≡ carry t)
+  mapped_some None c e = cc
+  mapped_some (Some t) c e = (t, refl, let f : c ≡ carry t = cc in f)
+
+  -- who is carried is a contender
+  pub carried_from : (l : List (Option TransferModel)) (i : ℕ) (c : TransferResult ds) → slice_index_or (carry_all l) i None ≡ Some c →
+      (t : TransferModel) × (at l i ≡ Some t) × (c ≡ carry t)
+  carried_from [] i c e = cc
+  carried_from (o ∷ l) zero c e = mapped_some o c e
+  carried_from (o ∷ l) (suc i) c e = carried_from l i c e
+
+  pub carried_at : (l : List (Option TransferModel)) (i : ℕ) (t : TransferModel) → at l i ≡ Some t →
+      slice_index_or (carry_all l) i None ≡ Some (carry t)
+  carried_at [] i t e = cc
+  carried_at (o ∷ l) zero t e = cc
+  carried_at (o ∷ l) (suc i) t e = carried_at l i t e

@@ -1,14 +1,13 @@
--- What the watcher notes, as the watcher of the law notes it.
+-- What the monitor notes, as the machine's monitor notes it.
 use Rattle.std.proofs.lemmas.List.Sums.{sum_by-cons}
-use Rattle.std.proofs.Common.{◌≡◌, ℕ, zero, suc, Bool, true, false, cond, List, [], ◌∷◌, ◌++◌, map, Some, None, Option, sym, refl, ap, ◌∙◌, arith, is_some}
-use Rattle.transfer.specs.Transfer.{TransferModel}
+use Rattle.std.proofs.Common.{◌≡◌, Bool, true, false, cond, List, [], ◌∷◌, Some, None, Option, sym, refl, ap, ◌∙◌, arith, is_some}
 use Rattle.device.specs.Device.{Behaviour}
 use Rattle.host.specs.Host.{HostBehaviour}
 use Rattle.wire.specs.declared.event.Event.{Event}
 use Rattle.wire.specs.declared.event.Event.TheVariants.{Rise, Fall, Start, Stop, SteadyHigh, SteadyLow}
 use Rattle.wire.specs.declared.wire.Signal.{Signal}
 use Rattle.law.specs.Bank.{Bank, bank_map, bank_list, any_true}
-use Rattle.law.specs.Book.{Entry, entry_contending, entry_is_armed, Turn, closed, opened, is_open, Book, book_after}
+use Rattle.law.specs.Book.{Entry, entry_contending, entry_is_armed, Turn, closed, opened, is_open, Book}
 use Rattle.master.specs.Master.{HostedMaster, hosted_mark, hosted_told, told_outcome}
 use Rattle.law.specs.Monitor.{Monitor, new_monitor, marked_after}
 use Rattle.law.specs.Use.{monitor_after}
@@ -26,15 +25,17 @@ falses_are (h ∷ hs) es = ap (λ l. false ∷ l) (falses_are hs es.1)
 
 module _ (hs : List HostBehaviour) (ds : List Behaviour) where
   opening_as : (w : Monitor) (b : Book hs ds) (v : Bool) →
-      cond (is_open (cond {A = Book hs ds} v (record { entries = bank_map entry_contending hs b.entries; devices = b.devices; turn = opened })
+      cond (is_open (cond {A = Book hs ds} v
+      (record { entries = bank_map entry_contending hs b.entries; devices = b.devices; turn = opened })
       (record { entries = b.entries; devices = b.devices; turn = closed })).turn)
-      (new_monitor (bank_list (λ h x. false) hs b.entries)) w
-      ≡ cond v (watch 0 false (falses (tasks hs b.entries)) (spell None [])) w
+      (new_monitor (bank_list (λ h x. false) hs b.entries)) w ≡
+      cond v (watch 0 false (falses (tasks hs b.entries)) (spell None [])) w
   opening_as w b true = ap (λ l. watch 0 false l (spell None [])) (falses_are hs b.entries)
   opening_as w b false = refl
 
   closed_as : (w : Monitor) (b : Book hs ds) (e : Event) → Kept hs b.entries →
-      monitor_after hs ds w (record { entries = b.entries; devices = b.devices; turn = closed }) e ≡ turned transfers w (tasks hs b.entries) None e
+      monitor_after hs ds w (record { entries = b.entries; devices = b.devices; turn = closed }) e ≡
+      turned transfers w (tasks hs b.entries) None e
   closed_as w b SteadyHigh k = opening_as w b (any_true (bank_list entry_is_armed hs b.entries))
       ∙ ap (λ v. cond v (watch 0 false (falses (tasks hs b.entries)) (spell None [])) w) (sym (any_armed hs b.entries k))
   closed_as w b Fall k = refl
@@ -44,11 +45,13 @@ module _ (hs : List HostBehaviour) (ds : List Behaviour) where
   closed_as w b SteadyLow k = refl
 
   watched_parts : (w : Monitor) (b : Book hs ds) (v : Turn) (e : Event) → Kept hs b.entries →
-      monitor_after hs ds w (record { entries = b.entries; devices = b.devices; turn = v }) e ≡ turned transfers w (tasks hs b.entries) (turn_if v (contenders hs b.entries)) e
+      monitor_after hs ds w (record { entries = b.entries; devices = b.devices; turn = v }) e ≡
+      turned transfers w (tasks hs b.entries) (turn_if v (contenders hs b.entries)) e
   watched_parts w b opened e k = refl
   watched_parts w b closed e k = closed_as w b e k
 
-  pub watched_as : (w : Monitor) (b : Book hs ds) (e : Event) → Sound hs ds b → monitor_after hs ds w b e ≡ turned transfers w (tasks hs b.entries) (turn_if b.turn (contenders hs b.entries)) e
+  pub watched_as : (w : Monitor) (b : Book hs ds) (e : Event) → Sound hs ds b →
+      monitor_after hs ds w b e ≡ turned transfers w (tasks hs b.entries) (turn_if b.turn (contenders hs b.entries)) e
   watched_as w b e k = watched_parts w b b.turn e k.kept
 
 -- marks by verdicts
@@ -62,7 +65,8 @@ marked_as (h ∷ hs) ms s (v ∷ vs) = grind (arith, marked_as hs ms.1 s vs)
 told_one : (k : VerdictModel transfers) → told_outcome k ≡ telling transfers k
 told_one k = grind arith
 
-pub told_as : (hs : List HostBehaviour) (ms : Bank HostedMaster hs) (s : Signal) → bank_list (λ h. hosted_told h s) hs ms ≡ tellings transfers (verdicts transfers (masters_of hs ms) s)
+pub told_as : (hs : List HostBehaviour) (ms : Bank HostedMaster hs) (s : Signal) →
+    bank_list (λ h. hosted_told h s) hs ms ≡ tellings transfers (verdicts transfers (masters_of hs ms) s)
 told_as [] ms s = refl
 told_as (h ∷ hs) ms s = grind (arith, told_as hs)
 

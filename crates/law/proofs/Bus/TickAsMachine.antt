@@ -1,4 +1,4 @@
--- The bus as the machine of the law sees it, and a tick of both.
+-- The bus as a machine, and a tick of both.
 use Rattle.std.proofs.Common.{◌≡◌, ℕ, ◌≤◌, Bool, true, not, ◌||◌, ltb, List, [], ◌∷◌, Option, refl, ap, ◌∙◌, ap₂, arith}
 use Rattle.std.proofs.lemmas.Bool.Decides.{nat_tests}
 use Rattle.device.specs.Device.{Behaviour}
@@ -26,11 +26,13 @@ master_of h x = x.master
 abbrev pub masters_of : (hs : List HostBehaviour) → Bank HostedMaster hs → List (MasterModel transfers)
 masters_of hs ms = bank_list master_of hs ms
 
-pub pulls_of : (hs : List HostBehaviour) (ms : Bank HostedMaster hs) → all_pulls (bank_list hosted_pulls hs ms) ≡ masters_pull transfers (masters_of hs ms)
+pulls_of : (hs : List HostBehaviour) (ms : Bank HostedMaster hs) →
+    all_pulls (bank_list hosted_pulls hs ms) ≡ masters_pull transfers (masters_of hs ms)
 pulls_of [] ms = refl
 pulls_of (h ∷ hs) ms = grind (arith, pulls_of hs)
 
-pub steps_of : (hs : List HostBehaviour) (ms : Bank HostedMaster hs) (s : Signal) → masters_of hs (bank_map (λ h. hosted_step h s) hs ms) ≡ masters_step transfers (masters_of hs ms) s
+steps_of : (hs : List HostBehaviour) (ms : Bank HostedMaster hs) (s : Signal) →
+    masters_of hs (bank_map (λ h. hosted_step h s) hs ms) ≡ masters_step transfers (masters_of hs ms) s
 steps_of [] ms s = refl
 steps_of (h ∷ hs) ms s = grind (arith, steps_of hs)
 
@@ -66,7 +68,8 @@ module _ (hs : List HostBehaviour) (ds : List Behaviour) where
       answers_small ds u.ports s.event s.bit s.free_and_high a (λ e. h (falls_from_high u.wire.last (levels_at hs ds u) e))
 
   -- a tick of the bus is a tick of the machine
-  pub tick_seen : (u : BusModel hs ds) (a : HoldAnswers ds) → LetGo u → seen (tick_at hs ds u a).1 ≡ tick transfers (ports_side ds) (seen u) (answer_at u a)
+  pub tick_seen : (u : BusModel hs ds) (a : HoldAnswers ds) → LetGo u →
+      seen (tick_at hs ds u a).1 ≡ tick transfers (ports_side ds) (seen u) (answer_at u a)
   tick_seen u a h =
       let v = levels_at hs ds u in
       let s = signal u.wire v in
@@ -82,7 +85,9 @@ module _ (hs : List HostBehaviour) (ds : List Behaviour) where
       let v = levels_at hs ds u in
       let s = signal u.wire v in
       let hold_goes = hold_follows ds u.ports s.event s.bit s.free_and_high a (λ e. h (falls_from_high u.wire.last v e)) in
-      let free : longest_hold ds u.ports ≡ 0 = nobody (all_pulls (bank_list hosted_pulls hs u.masters)).scl (all_pulls (bank_list port_pulls ds u.ports)).scl (longest_hold ds u.ports) (held ds u.ports) k in
+      let free : longest_hold ds u.ports ≡ 0 =
+      nobody (all_pulls (bank_list hosted_pulls hs u.masters)).scl (all_pulls (bank_list port_pulls ds u.ports)).scl
+      (longest_hold ds u.ports) (held ds u.ports) k in
       hold_goes ∙ (kept u.wire.last.scl v.scl u.wire.last.sda v.sda (longest_hold ds u.ports) s.bit (answer_at u a) k ∙ free) where
         nobody : (p q : Bool) (n : ℕ) → q ≡ ltb 0 n → not (p || q) ≡ true → n ≡ 0
         nobody p q n e h = grind (arith, nat_tests)

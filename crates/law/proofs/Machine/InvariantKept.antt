@@ -1,5 +1,6 @@
 -- A tick keeps the invariant, tells whom the book tells, marks whom it may, and brings an outcome nearer.
-use Rattle.std.proofs.Common.{◌≡◌, ℕ, zero, suc, ◌+◌, ◌-◌, ◌*◌, ◌<◌, ◌≤◌, Bool, true, false, cond, not, ◌||◌, eqb, ◌⊎◌, List, [], ◌∷◌, ◌++◌, is_some, Some, None, Option, unwrap_or, sym, refl, ap, ◌∙◌, subst, ap₂, inl, inr, append-nil, arith}
+use Rattle.std.proofs.Common.{◌≡◌, ℕ, zero, suc, ◌+◌, ◌-◌, ◌*◌, ◌<◌, ◌≤◌, Bool, true, false, cond, not, ◌||◌, eqb, ◌⊎◌, List, [], ◌∷◌, ◌++◌}
+use Rattle.std.proofs.Common.{is_some, Some, None, Option, unwrap_or, sym, refl, ap, ◌∙◌, subst, ap₂, inl, inr, append-nil, arith}
 use Rattle.std.specs.Prelude.{slice_index_or}
 use Rattle.std.proofs.lemmas.Bool.Decides.{nat_tests as tells}
 use Rattle.std.proofs.lemmas.Bool.{cases_lt}
@@ -13,26 +14,37 @@ use Rattle.wire.specs.Event.{event_between}
 use Rattle.wire.specs.Latch.{counted_bit}
 use Rattle.transfer.specs.Limits.{most_count}
 use Rattle.law.specs.Limits.{most_letters, ticks_of_low, ticks_of_letter, ticks_of_turn}
-use Rattle.law.specs.Letter.{stop, restart, bit_letter}
+use Rattle.law.specs.Letter.{Letter, stop, restart, bit_letter}
 use Rattle.law.specs.Monitor.{Monitor}
-use Rattle.law.proofs.FarSide.{Side, heard, taken}
+use Rattle.law.proofs.FarSide.{Side, heard, letter, taken}
 use Rattle.law.proofs.Machine.BusAsMachine.{any_scl, verdicts, asked, Bus, tick, tick_event, said, tick_verdicts}
-use Rattle.law.proofs.Machine.PhasesOfSlot.{lines, shown, rank, holds, early_lost, late_lost, Cell, looks, notes, no_verdict, early, late, cursors, opened, settled, some, Every, Timed, least, stay, advance, finished, claim_all, free_bus, claimed_bus, opened_bus, low_bus, fresh_bus, settled_bus, carries, held, Shape}
+use Rattle.law.proofs.Machine.PhasesOfSlot.{lines, shown, rank, holds, early_lost, late_lost, Cell, looks, notes, no_verdict, early, late}
+use Rattle.law.proofs.Machine.PhasesOfSlot.{cursors, opened, settled, some, Every, Timed, least, stay, advance, finished, claim_all}
+use Rattle.law.proofs.Machine.PhasesOfSlot.{free_bus, claimed_bus, opened_bus, low_bus, fresh_bus, settled_bus, carries, held, Shape}
 use Rattle.law.proofs.Machine.Arbitration.{at, lead, Quiet, Laws}
-use Rattle.law.proofs.Machine.BookOfMachine.{Tasks, Hosts, count, any, nobody, disarm, is_lost, telling, tellings, begins, leader, wins, outcomes, leader_side, book, feed, book_tells, Spell, spell, fallen, watch, falses, marks_too, turned, noted, sees, Loses, Stopped, Spelled, Plays}
+use Rattle.law.proofs.Machine.BookOfMachine.{Tasks, count, any, nobody, disarm, is_lost, telling, tellings, begins, task_string, leader}
+use Rattle.law.proofs.Machine.BookOfMachine.{wins, outcomes, leader_side, Book, book, feed, book_tells, Spell, spell, fallen, watch, falses}
+use Rattle.law.proofs.Machine.BookOfMachine.{marks_too, turned, noted, sees, Loses, Stopped, Spelled, Plays}
 use Rattle.law.proofs.Machine.EventForAll.{rank_top, every, least_below, via_verdicts}
 use Rattle.law.proofs.Machine.TickWhileLow.{low_stays, low_rises, low_ends}
 use Rattle.law.proofs.Machine.TickWhileHigh.{opened_stays, opened_falls, opened_ends, settled_stays, settled_falls, settled_ends}
 use Rattle.law.proofs.Machine.TickOfStart.{free_claims, free_stays, claimed_starts}
 use Rattle.law.proofs.Machine.TickAfterRise.{shaped, fresh_zero, fresh_end, fresh_restart, fresh_one, fresh_listen}
-use Rattle.law.proofs.Machine.VerdictsElsewhere.{lowered_quiet, rising_verdicts, settled_quiet, settled_fall_quiet, opened_quiet, opened_fall_quiet, claimed_quiet, idle_quiet}
-use Rattle.law.proofs.Machine.SurvivorsOfSlot.{timed_stay, timed_advance, timed_finished, alive_advance, alive_stay, alive_least, holds_zero, holds_restart, holds_not}
+use Rattle.law.proofs.Machine.VerdictsElsewhere.{lowered_quiet, rising_verdicts, settled_quiet, settled_fall_quiet, opened_quiet}
+use Rattle.law.proofs.Machine.VerdictsElsewhere.{opened_fall_quiet, claimed_quiet, idle_quiet}
+use Rattle.law.proofs.Machine.SurvivorsOfSlot.{timed_stay, timed_advance, timed_finished, alive_advance, alive_stay, alive_least}
+use Rattle.law.proofs.Machine.SurvivorsOfSlot.{holds_zero, holds_restart, holds_not}
 use Rattle.law.proofs.Machine.LeadingSymbol.{rank_inj}
-use Rattle.law.proofs.Machine.CellsOfTurn.{count_nobody, cell_armeds, Holding, Within, marked, never, armeds_stay, armeds_advance, holding_stay, holding_advance, within_stay, within_advance, holding_finished, armeds_claim, cursors_claim, timed_claim, holding_claim, within_claim, alive_claim, marked_claim, marked_more, marked_stay, marked_advance, note_at, unmarked, contender, tells_none}
-use Rattle.law.proofs.Machine.SlotsOfTurn.{Run, spelled, spells, letter_bit, letter_again, letter_stop, leads, alive_at, some_left, run_shape, run_carries, run_bit, run_again}
+use Rattle.law.proofs.Machine.CellsOfTurn.{count_nobody, cell_armeds, Holding, Within, marked, never, armeds_stay, armeds_advance}
+use Rattle.law.proofs.Machine.CellsOfTurn.{holding_stay, holding_advance, within_stay, within_advance, holding_finished, armeds_claim}
+use Rattle.law.proofs.Machine.CellsOfTurn.{cursors_claim, timed_claim, holding_claim, within_claim, alive_claim, marked_claim, marked_more}
+use Rattle.law.proofs.Machine.CellsOfTurn.{marked_stay, marked_advance, note_at, unmarked, contender, tells_none}
+use Rattle.law.proofs.Machine.SlotsOfTurn.{Run, spelled, spells, letter_bit, letter_again, letter_stop, leads, alive_at, some_left}
+use Rattle.law.proofs.Machine.SlotsOfTurn.{run_shape, run_carries, run_bit, run_again}
 use Rattle.law.proofs.Machine.SlotsTellLeast.{task_at, leader_in, loses_at, wins_least, least_wins, stop_side, stop_spells}
 use Rattle.law.proofs.Machine.Invariant.{Ready, Crew, Fit, Spelt, Stands, idle, claims, begun, low, rose, high}
-use Rattle.law.proofs.Machine.TickOfStop.{ending, tells_end, armeds_finished, counts_end, somebody_told, disarmed, tells_unmarked, outcome_at, told_at_stop}
+use Rattle.law.proofs.Machine.TickOfStop.{ending, tells_end, armeds_finished, counts_end, somebody_told, disarmed, tells_unmarked}
+use Rattle.law.proofs.Machine.TickOfStop.{outcome_at, told_at_stop}
 
 asked_to : (k : Option Bool) (h : ℕ) → h ≤ most_count → asked k h ≤ most_count
 asked_to None h b = omega arith
@@ -61,7 +73,8 @@ steady false = refl
 slot_low : (n : ℕ) → n ≤ 1 → (x : Symbol) → (n ≤ rank x) × (rank x ≤ 3) → (early_lost false x || late_lost n x) ≡ not (eqb (rank x) n)
 slot_low n h x q = grind (arith, tells)
 
-slot_high : (n : ℕ) → 2 ≤ n → n ≤ 3 → (x : Symbol) → (n ≤ rank x) × (rank x ≤ 3) → (early_lost true x || late_lost n x) ≡ not (eqb (rank x) n)
+slot_high : (n : ℕ) → 2 ≤ n → n ≤ 3 → (x : Symbol) → (n ≤ rank x) × (rank x ≤ 3) →
+    (early_lost true x || late_lost n x) ≡ not (eqb (rank x) n)
 slot_high n h g x q = grind (arith, tells)
 
 slot_listen : (b : Bool) (x : Symbol) → rank x ≡ 4 → (early_lost b x || late_lost 4 x) ≡ not (eqb (rank x) 4)
@@ -144,33 +157,61 @@ module _ (D : Side) where
   early_behind symbol.RepeatedStart s true h e = cc
   early_behind symbol.RepeatedStart s false h e = cc
 
-module _ (W : Script) (D : Side) (left : W.Cursor → ℕ) (H : Hosts W) (Alike : W.Cursor → W.Cursor → Type 0) (Fits : W.Task → Type 0) (Rest : D.S → Type 0) (laws : Laws W left Alike) (plays : Plays W D left H Alike Fits Rest) where
-  -- what a tick to the bus u with the event e and the verdicts ks does; due: how many ticks are then left at the most until an outcome is told
-  pub record Fine (hs : H.State) (os : Tasks W) (s : D.S) (t : Option (Tasks W)) (w : Monitor) (n : ℕ) (u : Bus W D) (e : Event) (ks : List (VerdictModel W)) : Type 0 where
+module _ (W : Script) (D : Side) (left : W.Cursor → ℕ) (Alike : W.Cursor → W.Cursor → Type 0)
+    (Fits : W.Task → Type 0) (Rest : D.S → Type 0) (laws : Laws W left Alike) (plays : Plays W D left Alike Fits Rest) where
+  -- the slots of the turn of l so far, and what was spelled in k of them; s is the side at rest
+  abbrev Slots : Tasks W → D.S → ℕ → ℕ → List (Option W.Cursor) → D.S → Type 0
+  Slots l s k r ps s' = Run W D left Alike (begins W l) (D.begin s) k r ps s'
+
+  abbrev text : Tasks W → D.S → ℕ → List Letter
+  text l s k = spelled W D (begins W l) (D.begin s) k
+
+  abbrev Fits_in : Tasks W → Tasks W → D.S → Type 0
+  Fits_in os l s = Fit W D Fits Rest os l s
+
+  abbrev StandsAs : Bus W D → Tasks W → D.S → Option (Tasks W) → Monitor → ℕ → Type 0
+  StandsAs u os s t w n = Stands W D left Alike Fits Rest u os s t w n
+
+  -- the book after the event e, and whom it tells there
+  abbrev fed : Tasks W → D.S → Option (Tasks W) → Event → Book W D
+  fed os s t e = feed W D left (book W D os s t) e
+
+  abbrev told_by : Tasks W → D.S → Option (Tasks W) → Event → List (Option W.Outcome)
+  told_by os s t e = book_tells W D left (book W D os s t) e
+
+  -- what a tick to the bus u with the event e and the verdicts ks does; due: how many ticks are then left at the most until an
+  -- outcome is told
+  pub record Fine (os : Tasks W) (s : D.S) (t : Option (Tasks W)) (w : Monitor) (n : ℕ) (u : Bus W D) (e : Event)
+      (ks : List (VerdictModel W)) : Type 0 where
     pub due : ℕ
-    pub stands : Stands W D left Alike Fits Rest u (feed W D left H (book W D H hs os s t) e).armed (feed W D left H (book W D H hs os s t) e).side (feed W D left H (book W D H hs os s t) e).turn
-        (sees W w os t e ks) due
-    pub tells : tellings W ks ≡ book_tells W D left H (book W D H hs os s t) e
-    pub counts : count (feed W D left H (book W D H hs os s t) e).armed + count (book_tells W D left H (book W D H hs os s t) e) ≡ count os
+    pub stands : StandsAs u (fed os s t e).armed (fed os s t e).side (fed os s t e).turn (sees W w os t e ks) due
+    pub tells : tellings W ks ≡ told_by os s t e
+    pub counts : count (fed os s t e).armed + count (told_by os s t e) ≡ count os
     pub loses : (i : ℕ) → slice_index_or ks i quiet ≡ lost → Loses W D left t s w.marked (turned W w os t e) i
-    pub stops : e ≡ Stop → (l : Tasks W) → t ≡ Some l → (i : ℕ) (p : W.Task) → at l i ≡ Some p → Stopped W D left l s w.marked (tellings W ks) i p
+    pub stops : e ≡ Stop → (l : Tasks W) → t ≡ Some l → (i : ℕ) (p : W.Task) → at l i ≡ Some p →
+        Stopped W D left l s w.marked (tellings W ks) i p
     pub spelled : e ≡ Stop → (l : Tasks W) → t ≡ Some l → Spelled W D left l s (turned W w os t e).spelled
-    pub falls : (1 ≤ count (book_tells W D left H (book W D H hs os s t) e)) ⊎ (((due < n) × ((feed W D left H (book W D H hs os s t) e).armed ≡ os)) ⊎ (any os ≡ false))
+    pub falls : (1 ≤ count (told_by os s t e)) ⊎ (((due < n) × ((fed os s t e).armed ≡ os)) ⊎ (any os ≡ false))
 
   -- by what the tick is known to be
-  by_tick : (hs : H.State) (u : Bus W D) (os : Tasks W) (s : D.S) (t : Option (Tasks W)) (w : Monitor) (n h : ℕ) (u' : Bus W D) (ks : List (VerdictModel W)) →
-      tick W D u h ≡ u' → tick_verdicts W D u ≡ ks → Fine hs os s t w n u' (event_between u.wire.last u'.wire.last) ks → Fine hs os s t w n (tick W D u h) (tick_event W D u) (tick_verdicts W D u)
-  by_tick hs u os s t w n h u' ks a b f =
-      subst (λ x. Fine hs os s t w n (tick W D u h) (tick_event W D u) x) (sym b) (subst (λ x. Fine hs os s t w n x (event_between u.wire.last x.wire.last) ks) (sym a) f)
+  by_tick : (u : Bus W D) (os : Tasks W) (s : D.S) (t : Option (Tasks W)) (w : Monitor) (n h : ℕ) (u' : Bus W D)
+      (ks : List (VerdictModel W)) →
+      tick W D u h ≡ u' → tick_verdicts W D u ≡ ks → Fine os s t w n u' (event_between u.wire.last u'.wire.last) ks →
+      Fine os s t w n (tick W D u h) (tick_event W D u) (tick_verdicts W D u)
+  by_tick u os s t w n h u' ks a b f =
+      subst (λ x. Fine os s t w n (tick W D u h) (tick_event W D u) x) (sym b)
+      (subst (λ x. Fine os s t w n x (event_between u.wire.last x.wire.last) ks) (sym a) f)
 
   -- a tick that tells nobody
-  silent : (hs : H.State) (os : Tasks W) (s : D.S) (t t' : Option (Tasks W)) (w w' : Monitor) (n n' : ℕ) (u : Bus W D) (e : Event) (ks : List (VerdictModel W)) →
-      feed W D left H (book W D H hs os s t) e ≡ book W D H hs os s t' → book_tells W D left H (book W D H hs os s t) e ≡ nobody os → (e ≡ Stop → ⊥) → sees W w os t e ks ≡ w' →
+  silent : (os : Tasks W) (s : D.S) (t t' : Option (Tasks W)) (w w' : Monitor) (n n' : ℕ) (u : Bus W D) (e : Event)
+      (ks : List (VerdictModel W)) →
+      fed os s t e ≡ book W D os s t' → told_by os s t e ≡ nobody os → (e ≡ Stop → ⊥) → sees W w os t e ks ≡ w' →
       tellings W ks ≡ nobody os → ((i : ℕ) → slice_index_or ks i quiet ≡ lost → Loses W D left t s w.marked (turned W w os t e) i) →
-      (n' < n) ⊎ (any os ≡ false) → Stands W D left Alike Fits Rest u os s t' w' n' → Fine hs os s t w n u e ks
-  silent hs os s t t' w w' n n' u e ks fe te ne se ts ls fs st = record {
+      (n' < n) ⊎ (any os ≡ false) → StandsAs u os s t' w' n' → Fine os s t w n u e ks
+  silent os s t t' w w' n n' u e ks fe te ne se ts ls fs st = record {
     due = n';
-    stands = subst (λ b. Stands W D left Alike Fits Rest u b.armed b.side b.turn (sees W w os t e ks) n') (sym fe) (subst (λ x. Stands W D left Alike Fits Rest u os s t' x n') (sym se) st);
+    stands = subst (λ b. StandsAs u b.armed b.side b.turn (sees W w os t e ks) n') (sym fe)
+        (subst (λ x. StandsAs u os s t' x n') (sym se) st);
     tells = ts ∙ sym te;
     counts = let a = ap (λ b. count b.armed) fe in let b = ap count te ∙ count_nobody W.Outcome os in omega arith;
     loses = ls;
@@ -179,25 +220,30 @@ module _ (W : Script) (D : Side) (left : W.Cursor → ℕ) (H : Hosts W) (Alike 
     falls = inr (elim fs [ inl z ↦ inl (z, ap (λ b. b.armed) fe) | inr z ↦ inr z ]);
   }
 
-  no_loses : (t : Option (Tasks W)) (s : D.S) (v : List Bool) (w : Monitor) (cs : List (Cell W)) (i : ℕ) → slice_index_or (notes W (no_verdict W) cs) i quiet ≡ lost → Loses W D left t s v w i
+  no_loses : (t : Option (Tasks W)) (s : D.S) (v : List Bool) (w : Monitor) (cs : List (Cell W)) (i : ℕ) →
+      slice_index_or (notes W (no_verdict W) cs) i quiet ≡ lost → Loses W D left t s v w i
   no_loses t s v w cs i h = let a = note_at W (no_verdict W) cs i h in let b : ◌≡◌ {A = VerdictModel W} quiet lost = a.2 in cc
 
-  abbrev pub Real : H.State → Bus W D → Tasks W → D.S → Option (Tasks W) → Monitor → ℕ → ℕ → Type 0
-  Real hs u os s t w n h = Fine hs os s t w n (tick W D u h) (tick_event W D u) (tick_verdicts W D u)
+  abbrev pub Real : Bus W D → Tasks W → D.S → Option (Tasks W) → Monitor → ℕ → ℕ → Type 0
+  Real u os s t w n h = Fine os s t w n (tick W D u h) (tick_event W D u) (tick_verdicts W D u)
 
   -- a tick with no verdict
-  plain : (hs : H.State) (u : Bus W D) (cs : List (Cell W)) (os : Tasks W) (s : D.S) (t t' : Option (Tasks W)) (w w' : Monitor) (n n' h : ℕ) (u' : Bus W D) (e : Event) →
-      os ≡ cell_armeds W cs → tick W D u h ≡ u' → event_between u.wire.last u'.wire.last ≡ e → said W D u u'.wire.last ≡ notes W (no_verdict W) cs →
-      feed W D left H (book W D H hs os s t) e ≡ book W D H hs os s t' → book_tells W D left H (book W D H hs os s t) e ≡ nobody os → (e ≡ Stop → ⊥) → noted W (turned W w os t e) (notes W (no_verdict W) cs) ≡ w' →
-      (n' < n) ⊎ (any os ≡ false) → Stands W D left Alike Fits Rest u' os s t' w' n' → Real hs u os s t w n h
-  plain hs u cs os s t t' w w' n n' h u' e a q ev sd fe te ne se fs st =
-      by_tick hs u os s t w n h u' (notes W (no_verdict W) cs) q (via_verdicts W D u (notes W (no_verdict W) cs) u'.wire.last (ap (λ x. x.wire.last) q) sd)
-      (subst (λ x. Fine hs os s t w n u' x (notes W (no_verdict W) cs)) (sym ev)
-      (silent hs os s t t' w w' n n' u' e (notes W (no_verdict W) cs) fe te ne se
+  plain : (u : Bus W D) (cs : List (Cell W)) (os : Tasks W) (s : D.S) (t t' : Option (Tasks W)) (w w' : Monitor) (n n' h : ℕ) (u' : Bus W D)
+      (e : Event) →
+      os ≡ cell_armeds W cs → tick W D u h ≡ u' → event_between u.wire.last u'.wire.last ≡ e →
+      said W D u u'.wire.last ≡ notes W (no_verdict W) cs →
+      fed os s t e ≡ book W D os s t' → told_by os s t e ≡ nobody os →
+      (e ≡ Stop → ⊥) → noted W (turned W w os t e) (notes W (no_verdict W) cs) ≡ w' →
+      (n' < n) ⊎ (any os ≡ false) → StandsAs u' os s t' w' n' → Real u os s t w n h
+  plain u cs os s t t' w w' n n' h u' e a q ev sd fe te ne se fs st =
+      by_tick u os s t w n h u' (notes W (no_verdict W) cs) q
+      (via_verdicts W D u (notes W (no_verdict W) cs) u'.wire.last (ap (λ x. x.wire.last) q) sd)
+      (subst (λ x. Fine os s t w n u' x (notes W (no_verdict W) cs)) (sym ev)
+      (silent os s t t' w w' n n' u' e (notes W (no_verdict W) cs) fe te ne se
       (tells_none W (no_verdict W) (λ x p. refl) cs ∙ ap nobody (sym a))
       (no_loses t s w.marked (turned W w os t e) cs) fs st))
 
-  first_run : (os : Tasks W) (s : D.S) → Rest s → Ready Fits os → Run W D left Alike (begins W os) (D.begin s) 0 most_letters (begins W os) (D.begin s)
+  first_run : (os : Tasks W) (s : D.S) → Rest s → Ready Fits os → Slots os s 0 most_letters (begins W os) (D.begin s)
   first_run os s q y = record {
     runs = refl;
     fair = record { small = small; alike = alike };
@@ -218,17 +264,20 @@ module _ (W : Script) (D : Side) (left : W.Cursor → ℕ) (H : Hosts W) (Alike 
       silent_side : (i : ℕ) (p : W.Cursor) → at (begins W os) i ≡ Some p → Quiet W D p (D.begin s)
       silent_side i p e = let t = task_at W os i p e in subst (λ x. Quiet W D x (D.begin s)) t.2 (plays.quiet t.0 s (y i t.0 t.1) q)
 
-  tick_idle : (hs : H.State) (os : Tasks W) (s : D.S) (w : Monitor) (cs : List (Cell W)) (h : ℕ) → os ≡ cell_armeds W cs → Timed W cs → Holding W cs → Rest s → Ready Fits os → Real hs (free_bus W D cs s) os s None w ticks_of_turn h
-  tick_idle hs os s w cs h a t g q y = go (any os) refl
+  tick_idle : (os : Tasks W) (s : D.S) (w : Monitor) (cs : List (Cell W)) (h : ℕ) → os ≡ cell_armeds W cs → Timed W cs → Holding W cs →
+      Rest s → Ready Fits os → Real (free_bus W D cs s) os s None w ticks_of_turn h
+  tick_idle os s w cs h a t g q y = go (any os) refl
     where
       goes : tick W D (free_bus W D cs s) h ≡ claimed_bus W D (claim_all W cs) s
       goes = free_claims W D cs s h (plays.calm s q)
 
-      go : (v : Bool) → any os ≡ v → Real hs (free_bus W D cs s) os s None w ticks_of_turn h
+      go : (v : Bool) → any os ≡ v → Real (free_bus W D cs s) os s None w ticks_of_turn h
       go true v =
-          plain hs (free_bus W D cs s) cs os s None (Some os) w (watch 0 false (falses os) (spell None [])) ticks_of_turn (ticks_of_turn - 1) h (claimed_bus W D (claim_all W cs) s) SteadyHigh a goes refl (idle_quiet W cs)
-          (ap (λ z. book W D H hs os s (cond z (Some os) None)) v) refl high_no
-          (ap (λ z. noted W (cond z (watch 0 false (falses os) (spell None [])) w) (notes W (no_verdict W) cs)) v ∙ ap (λ x. watch 0 false x (spell None [])) (marks_none W (falses os) cs))
+          plain (free_bus W D cs s) cs os s None (Some os) w (watch 0 false (falses os) (spell None [])) ticks_of_turn (ticks_of_turn - 1) h
+          (claimed_bus W D (claim_all W cs) s) SteadyHigh a goes refl (idle_quiet W cs)
+          (ap (λ z. book W D os s (cond z (Some os) None)) v) refl high_no
+          (ap (λ z. noted W (cond z (watch 0 false (falses os) (spell None [])) w) (notes W (no_verdict W) cs)) v
+          ∙ ap (λ x. watch 0 false x (spell None [])) (marks_none W (falses os) cs))
           (inl (omega arith))
           (claims (claimed_bus W D (claim_all W cs) s) os s os (falses os) (spell None []) (claim_all W cs) refl
           (ap falses a ∙ marked_claim W cs ∙ ap (λ z. marked W never z (claim_all W cs)) (sym a), refl)
@@ -240,54 +289,70 @@ module _ (W : Script) (D : Side) (left : W.Cursor → ℕ) (H : Hosts W) (Alike 
             holding = holding_claim W cs;
             within = subst (λ l. Within W l (claim_all W cs)) (sym a) (within_claim W cs);
           })
-          (subst (λ ps. Run W D left Alike (begins W os) (D.begin s) 0 most_letters ps (D.begin s)) (ap (begins W) a ∙ sym (cursors_claim W cs)) (first_run os s q y)) (record { armed = y; turn = y; rest = q }))
+          (subst (λ ps. Slots os s 0 most_letters ps (D.begin s)) (ap (begins W) a ∙ sym (cursors_claim W cs)) (first_run os s q y))
+          (record { armed = y; turn = y; rest = q }))
       go false v =
-          plain hs (free_bus W D cs s) cs os s None None w (noted W w (notes W (no_verdict W) cs)) ticks_of_turn ticks_of_turn h (free_bus W D (claim_all W cs) s) SteadyHigh a
+          plain (free_bus W D cs s) cs os s None None w (noted W w (notes W (no_verdict W) cs)) ticks_of_turn ticks_of_turn h
+          (free_bus W D (claim_all W cs) s) SteadyHigh a
           (goes ∙ free_stays W D (claim_all W cs) s (alive_claim W cs ∙ ap any (sym a) ∙ v)) refl (idle_quiet W cs)
-          (ap (λ z. book W D H hs os s (cond z (Some os) None)) v) refl high_no
+          (ap (λ z. book W D os s (cond z (Some os) None)) v) refl high_no
           (ap (λ z. noted W (cond z (watch 0 false (falses os) (spell None [])) w) (notes W (no_verdict W) cs)) v)
           (inr v)
-          (idle (free_bus W D (claim_all W cs) s) os s (noted W w (notes W (no_verdict W) cs)) (claim_all W cs) refl (a ∙ sym (armeds_claim W cs)) (timed_claim W cs t) (holding_claim W cs) q y)
+          (idle (free_bus W D (claim_all W cs) s) os s (noted W w (notes W (no_verdict W) cs)) (claim_all W cs) refl (a
+          ∙ sym (armeds_claim W cs)) (timed_claim W cs t) (holding_claim W cs) q y)
 
-  tick_claims : (hs : H.State) (os : Tasks W) (s : D.S) (l : Tasks W) (v : List Bool) (sp : Spell) (cs : List (Cell W)) (h : ℕ) → (v ≡ marked W never l cs) × (sp ≡ spell None []) → Crew W l os cs →
-      Run W D left Alike (begins W l) (D.begin s) 0 most_letters (cursors W cs) (D.begin s) → Fit W D Fits Rest os l s → Real hs (claimed_bus W D cs s) os s (Some l) (watch 0 false v sp) (ticks_of_turn - 1) h
-  tick_claims hs os s l v sp cs h m g r y =
-      plain hs (claimed_bus W D cs s) cs os s (Some l) (Some l) (watch 0 false v sp) (watch 0 false v sp) (ticks_of_turn - 1) (ticks_of_turn - 2) h (opened_bus W D cs (D.begin s) 0) Start g.armed
-      (claimed_starts W D cs s h g.timed g.living) refl (claimed_quiet W cs) refl refl start_no (ap (λ x. watch 0 false x sp) (marks_none W v cs)) (inl (omega arith))
+  tick_claims : (os : Tasks W) (s : D.S) (l : Tasks W) (v : List Bool) (sp : Spell) (cs : List (Cell W)) (h : ℕ) →
+      (v ≡ marked W never l cs) × (sp ≡ spell None []) → Crew W l os cs →
+      Slots l s 0 most_letters (cursors W cs) (D.begin s) → Fits_in os l s →
+      Real (claimed_bus W D cs s) os s (Some l) (watch 0 false v sp) (ticks_of_turn - 1) h
+  tick_claims os s l v sp cs h m g r y =
+      plain (claimed_bus W D cs s) cs os s (Some l) (Some l) (watch 0 false v sp) (watch 0 false v sp) (ticks_of_turn - 1)
+      (ticks_of_turn - 2) h (opened_bus W D cs (D.begin s) 0) Start g.armed
+      (claimed_starts W D cs s h g.timed g.living) refl (claimed_quiet W cs) refl refl start_no
+      (ap (λ x. watch 0 false x sp) (marks_none W v cs)) (inl (omega arith))
       (begun (opened_bus W D cs (D.begin s) 0) os s l v sp cs 0 (ticks_of_turn - 2) refl (omega arith) (omega arith) m g r y)
 
-  tick_begun : (hs : H.State) (os : Tasks W) (s : D.S) (l : Tasks W) (v : List Bool) (sp : Spell) (cs : List (Cell W)) (e n h : ℕ) → e ≤ most_count → n + 2 + e ≡ ticks_of_turn →
+  tick_begun : (os : Tasks W) (s : D.S) (l : Tasks W) (v : List Bool) (sp : Spell) (cs : List (Cell W)) (e n h : ℕ) → e ≤ most_count →
+      n + 2 + e ≡ ticks_of_turn →
       (v ≡ marked W never l cs) × (sp ≡ spell None []) → Crew W l os cs →
-      Run W D left Alike (begins W l) (D.begin s) 0 most_letters (cursors W cs) (D.begin s) → Fit W D Fits Rest os l s → Real hs (opened_bus W D cs (D.begin s) e) os s (Some l) (watch 0 false v sp) n h
-  tick_begun hs os s l v sp cs e n h b c m g r y = go (any_scl W (looks W (opened W e) cs)) refl
+      Slots l s 0 most_letters (cursors W cs) (D.begin s) → Fits_in os l s →
+      Real (opened_bus W D cs (D.begin s) e) os s (Some l) (watch 0 false v sp) n h
+  tick_begun os s l v sp cs e n h b c m g r y = go (any_scl W (looks W (opened W e) cs)) refl
     where
-      go : (x : Bool) → any_scl W (looks W (opened W e) cs) ≡ x → Real hs (opened_bus W D cs (D.begin s) e) os s (Some l) (watch 0 false v sp) n h
+      go : (x : Bool) → any_scl W (looks W (opened W e) cs) ≡ x →
+          Real (opened_bus W D cs (D.begin s) e) os s (Some l) (watch 0 false v sp) n h
       go false x =
           let k : e < most_count = elim (cases_lt e most_count) [
             | inl z ↦ z
             | inr z ↦ let y = opened_ends W cs e g.timed g.living z in cc
           ] in
-          plain hs (opened_bus W D cs (D.begin s) e) cs os s (Some l) (Some l) (watch 0 false v sp) (watch 0 false v sp) n (n - 1) h (opened_bus W D cs (D.begin s) (e + 1)) SteadyHigh g.armed
-          (opened_stays W D cs (D.begin s) e h g.timed g.living x) refl (opened_quiet W e cs) refl refl high_no (ap (λ x. watch 0 false x sp) (marks_none W v cs)) (inl (omega arith))
+          plain (opened_bus W D cs (D.begin s) e) cs os s (Some l) (Some l) (watch 0 false v sp) (watch 0 false v sp) n (n - 1) h
+          (opened_bus W D cs (D.begin s) (e + 1)) SteadyHigh g.armed
+          (opened_stays W D cs (D.begin s) e h g.timed g.living x) refl (opened_quiet W e cs) refl refl high_no
+          (ap (λ x. watch 0 false x sp) (marks_none W v cs)) (inl (omega arith))
           (begun (opened_bus W D cs (D.begin s) (e + 1)) os s l v sp cs (e + 1) (n - 1) refl (omega arith) (omega arith) m g r y)
       go true x =
-          plain hs (opened_bus W D cs (D.begin s) e) cs os s (Some l) (Some l) (watch 0 false v sp) (watch 1 false v (fallen sp.latched sp.letters)) n (ticks_of_letter * most_letters) h (low_bus W D false cs (D.begin s) 0 0) Fall g.armed
+          plain (opened_bus W D cs (D.begin s) e) cs os s (Some l) (Some l) (watch 0 false v sp)
+          (watch 1 false v (fallen sp.latched sp.letters)) n (ticks_of_letter * most_letters) h (low_bus W D false cs (D.begin s) 0 0) Fall
+          g.armed
           (opened_falls W D cs (D.begin s) e h g.timed g.living x) refl (opened_fall_quiet W e cs) refl refl fall_no
           (ap (λ x. watch 1 false x (fallen sp.latched sp.letters)) (marks_none W v cs)) (inl (omega arith))
-          (low (low_bus W D false cs (D.begin s) 0 0) os s l v (fallen sp.latched sp.letters) cs 0 most_letters (D.begin s) false 0 0 (ticks_of_letter * most_letters) refl (omega arith) (omega arith) (omega arith)
+          (low (low_bus W D false cs (D.begin s) 0 0) os s l v (fallen sp.latched sp.letters) cs 0 most_letters (D.begin s) false 0 0
+          (ticks_of_letter * most_letters) refl (omega arith) (omega arith) (omega arith)
           (m.0, ap (λ x. fallen x.latched x.letters) m.1) g r y)
 
   -- a mark in the slot k
   loses_here : (sp : Spell) (s0 : D.S) (l os : Tasks W) (v : List Bool) (f lo : Symbol → Bool) (j : Symbol → W.Cursor → VerdictModel W)
       (each : (x : Symbol) (p : W.Cursor) → is_lost W (j x p) ≡ lo x) (cs : List (Cell W)) (k r : ℕ) (s : D.S) →
-      v ≡ marked W f l cs → Crew W l os cs → Run W D left Alike (begins W l) (D.begin s0) k r (cursors W cs) s →
+      v ≡ marked W f l cs → Crew W l os cs → Slots l s0 k r (cursors W cs) s →
       ((x : Symbol) → lo x ≡ true → f x ≡ false) → ((x : Symbol) → lo x ≡ true → x ≡ lead W (cursors W cs) → ⊥) →
       (i : ℕ) → slice_index_or (notes W j cs) i quiet ≡ lost → Loses W D left (Some l) s0 v (watch (suc k) true v sp) i
   loses_here sp s0 l os v f lo j each cs k r s m g run new behind i e =
       let a = note_at W j cs i e in
       let o : lo (W.symbol a.0) ≡ true = sym (each (W.symbol a.0) a.0) ∙ ap (is_lost W) a.2 in
       let q = contender W l cs g.within i a.0 a.1 in
-      let x = loses_at W D left Alike laws l (D.begin s0) k r (cursors W cs) s run i q.0 a.0 q.1 a.1 (λ z. behind (W.symbol a.0) o (rank_inj (W.symbol a.0) (lead W (cursors W cs)) (sym z))) in
+      let x = loses_at W D left Alike laws l (D.begin s0) k r (cursors W cs) s run i q.0 a.0 q.1 a.1
+      (λ z. behind (W.symbol a.0) o (rank_inj (W.symbol a.0) (lead W (cursors W cs)) (sym z))) in
       record {
         turn = l;
         now = refl;
@@ -302,261 +367,318 @@ module _ (W : Script) (D : Side) (left : W.Cursor → ℕ) (H : Hosts W) (Alike 
         first = x.2;
       }
 
-  tick_low : (hs : H.State) (os : Tasks W) (s0 : D.S) (l : Tasks W) (v : List Bool) (sp : Spell) (cs : List (Cell W)) (k r : ℕ) (s : D.S) (d : Bool) (f e n h : ℕ) → f ≤ most_count → e ≤ most_count → n + e ≡ ticks_of_letter * r →
-      (v ≡ marked W never l cs) × (sp ≡ spell None (spelled W D (begins W l) (D.begin s0) k)) → Crew W l os cs → Run W D left Alike (begins W l) (D.begin s0) k r (cursors W cs) s →
-      Fit W D Fits Rest os l s0 → Real hs (low_bus W D d cs s f e) os s0 (Some l) (watch (suc k) false v sp) n h
-  tick_low hs os s0 l v sp cs k r s d f e n h b b' c m g run y = go (held W D cs f e) refl
+  tick_low : (os : Tasks W) (s0 : D.S) (l : Tasks W) (v : List Bool) (sp : Spell) (cs : List (Cell W)) (k r : ℕ) (s : D.S) (d : Bool)
+      (f e n h : ℕ) → f ≤ most_count → e ≤ most_count → n + e ≡ ticks_of_letter * r →
+      (v ≡ marked W never l cs) × (sp ≡ spell None (text l s0 k)) → Crew W l os cs → Slots l s0 k r (cursors W cs) s →
+      Fits_in os l s0 → Real (low_bus W D d cs s f e) os s0 (Some l) (watch (suc k) false v sp) n h
+  tick_low os s0 l v sp cs k r s d f e n h b b' c m g run y = go (held W D cs f e) refl
     where
       some_r : 1 ≤ r
       some_r = some_left W D left Alike laws (begins W l) (D.begin s0) k r cs s run g.living
 
-      go : (x : Bool) → held W D cs f e ≡ x → Real hs (low_bus W D d cs s f e) os s0 (Some l) (watch (suc k) false v sp) n h
+      go : (x : Bool) → held W D cs f e ≡ x → Real (low_bus W D d cs s f e) os s0 (Some l) (watch (suc k) false v sp) n h
       go true x =
           let z = some_r in
           let k' : e < most_count = elim (cases_lt e most_count) [
             | inl z ↦ z
             | inr z ↦ let q = low_ends W cs e g.timed z in absurd (grind (arith, tells))
           ] in
-          plain hs (low_bus W D d cs s f e) cs os s0 (Some l) (Some l) (watch (suc k) false v sp) (watch (suc k) false v sp) n (n - 1) h (low_bus W D (carries W D cs s) cs s f (e + 1)) SteadyLow g.armed
-          (low_stays W D d cs s f e h x) refl (lowered_quiet W e cs) refl refl low_no (ap (λ x. watch (suc k) false x sp) (marks_none W v cs)) (inl (omega arith))
-          (low (low_bus W D (carries W D cs s) cs s f (e + 1)) os s0 l v sp cs k r s (carries W D cs s) f (e + 1) (n - 1) refl b (omega arith) (omega arith) m g run y)
+          plain (low_bus W D d cs s f e) cs os s0 (Some l) (Some l) (watch (suc k) false v sp) (watch (suc k) false v sp) n (n - 1) h
+          (low_bus W D (carries W D cs s) cs s f (e + 1)) SteadyLow g.armed
+          (low_stays W D d cs s f e h x) refl (lowered_quiet W e cs) refl refl low_no
+          (ap (λ x. watch (suc k) false x sp) (marks_none W v cs)) (inl (omega arith))
+          (low (low_bus W D (carries W D cs s) cs s f (e + 1)) os s0 l v sp cs k r s (carries W D cs s) f (e + 1) (n - 1) refl b
+          (omega arith) (omega arith) m g run y)
       go false x =
           let z = some_r in
           let q = low_rises W D d cs s f e h x in
           let o = carries W D cs s in
           let ks = notes W (early W o) cs in
           let u = low_bus W D d cs s f e in
-          by_tick hs u os s0 (Some l) (watch (suc k) false v sp) n h (fresh_bus W D o cs s) ks q
+          by_tick u os s0 (Some l) (watch (suc k) false v sp) n h (fresh_bus W D o cs s) ks q
           (via_verdicts W D u ks (lines true o) (ap (λ x. x.wire.last) q) (rising_verdicts W e o cs))
-          (silent hs os s0 (Some l) (Some l) (watch (suc k) false v sp) (watch (suc k) true (marked W (early_lost o) l cs) (spell (Some o) sp.letters)) n (ticks_of_letter * r - ticks_of_low) (fresh_bus W D o cs s) (Rise o) ks
-          refl refl (rise_no o) (ap (λ x. watch (suc k) true x (spell (Some o) sp.letters)) (ap (λ x. marks_too W x ks) m.0 ∙ marked_more W never (early_lost o) (early W o) (early_is W o) l cs g.within))
+          (silent os s0 (Some l) (Some l) (watch (suc k) false v sp)
+          (watch (suc k) true (marked W (early_lost o) l cs) (spell (Some o) sp.letters)) n (ticks_of_letter * r - ticks_of_low)
+          (fresh_bus W D o cs s) (Rise o) ks
+          refl refl (rise_no o) (ap (λ x. watch (suc k) true x (spell (Some o) sp.letters)) (ap (λ x. marks_too W x ks) m.0
+          ∙ marked_more W never (early_lost o) (early W o) (early_is W o) l cs g.within))
           (tells_none W (early W o) (early_mute W o) cs ∙ ap nobody (sym g.armed))
           (loses_here (spell (Some o) sp.letters) s0 l os v never (early_lost o) (early W o) (early_is W o) cs k r s m.0 g run (λ x e. refl)
-          (λ x e z. early_behind D x s o e (ap (λ y. heard D y s) z ∙ run_carries W D left Alike laws (begins W l) (D.begin s0) k r cs s run)))
+          (λ x e z. early_behind D x s o e (ap (λ y. heard D y s) z
+          ∙ run_carries W D left Alike laws (begins W l) (D.begin s0) k r cs s run)))
           (inl (omega arith))
-          (rose (fresh_bus W D o cs s) os s0 l (marked W (early_lost o) l cs) (spell (Some o) sp.letters) cs k r s o (ticks_of_letter * r - ticks_of_low) refl refl (omega arith) (refl, ap (λ x. spell (Some o) x.letters) m.1) g run y))
+          (rose (fresh_bus W D o cs s) os s0 l (marked W (early_lost o) l cs) (spell (Some o) sp.letters) cs k r s o
+          (ticks_of_letter * r - ticks_of_low) refl refl (omega arith) (refl, ap (λ x. spell (Some o) x.letters) m.1) g run y))
 
-  tick_high : (hs : H.State) (os : Tasks W) (s0 : D.S) (l : Tasks W) (v : List Bool) (sp : Spell) (cs : List (Cell W)) (k r : ℕ) (s : D.S) (d : Bool) (c : Option Bool) (e n h : ℕ) → h ≤ most_count →
-      not (some W holds cs || D.pulls s) ≡ d → e ≤ most_count → n + ticks_of_low + 1 + e ≡ ticks_of_letter * suc r → (v ≡ marked W never l cs) × (fallen sp.latched sp.letters ≡ spell None
-      (spelled W D (begins W l) (D.begin s0) (suc k))) × Spelt W D (begins W l) (D.begin s0) (suc k) sp s → Crew W l os cs →
-      Run W D left Alike (begins W l) (D.begin s0) (suc k) r (cursors W (advance W (unwrap_or c true) cs)) (taken D c s) → Fit W D Fits Rest os l s0 →
-      Real hs (settled_bus W D d c cs s e) os s0 (Some l) (watch (suc k) true v sp) n h
-  tick_high hs os s0 l v sp cs k r s d c e n h hh j o z m g run y = go (any_scl W (looks W (settled W e) cs)) refl
+  tick_high : (os : Tasks W) (s0 : D.S) (l : Tasks W) (v : List Bool) (sp : Spell) (cs : List (Cell W)) (k r : ℕ) (s : D.S) (d : Bool)
+      (c : Option Bool) (e n h : ℕ) → h ≤ most_count →
+      not (some W holds cs || D.pulls s) ≡ d → e ≤ most_count → n + ticks_of_low + 1 + e ≡ ticks_of_letter * suc r →
+      (v ≡ marked W never l cs) × (fallen sp.latched sp.letters ≡ spell None
+      (text l s0 (suc k))) × Spelt W D (begins W l) (D.begin s0) (suc k) sp s → Crew W l os cs →
+      Slots l s0 (suc k) r (cursors W (advance W (unwrap_or c true) cs)) (taken D c s) → Fits_in os l s0 →
+      Real (settled_bus W D d c cs s e) os s0 (Some l) (watch (suc k) true v sp) n h
+  tick_high os s0 l v sp cs k r s d c e n h hh j o z m g run y = go (any_scl W (looks W (settled W e) cs)) refl
     where
       some_r : 1 ≤ r
-      some_r = some_left W D left Alike laws (begins W l) (D.begin s0) (suc k) r (advance W (unwrap_or c true) cs) (taken D c s) run (alive_advance W (unwrap_or c true) cs ∙ g.living)
+      some_r = some_left W D left Alike laws (begins W l) (D.begin s0) (suc k) r (advance W (unwrap_or c true) cs) (taken D c s) run
+          (alive_advance W (unwrap_or c true) cs ∙ g.living)
 
-      go : (x : Bool) → any_scl W (looks W (settled W e) cs) ≡ x → Real hs (settled_bus W D d c cs s e) os s0 (Some l) (watch (suc k) true v sp) n h
+      go : (x : Bool) → any_scl W (looks W (settled W e) cs) ≡ x →
+          Real (settled_bus W D d c cs s e) os s0 (Some l) (watch (suc k) true v sp) n h
       go false x =
           let k' : e < most_count = elim (cases_lt e most_count) [
             | inl z ↦ z
             | inr z ↦ let y = settled_ends W cs e g.timed g.living z in cc
           ] in
           let rr = some_r in
-          plain hs (settled_bus W D d c cs s e) cs os s0 (Some l) (Some l) (watch (suc k) true v sp) (watch (suc k) true v sp) n (n - 1) h (settled_bus W D d c cs s (e + 1)) SteadyHigh g.armed
-          (settled_stays W D d c cs s e h g.timed j x) (steady d) (ap (λ ev. verdicts W (looks W (settled W e) cs) (shown ev (counted_bit c ev) false)) (steady d) ∙ settled_quiet W e cs) refl refl
+          plain (settled_bus W D d c cs s e) cs os s0 (Some l) (Some l) (watch (suc k) true v sp) (watch (suc k) true v sp) n (n - 1) h
+          (settled_bus W D d c cs s (e + 1)) SteadyHigh g.armed
+          (settled_stays W D d c cs s e h g.timed j x) (steady d)
+          (ap (λ ev. verdicts W (looks W (settled W e) cs) (shown ev (counted_bit c ev) false)) (steady d) ∙ settled_quiet W e cs) refl refl
           high_no (ap (λ x. watch (suc k) true x sp) (marks_none W v cs)) (inl (omega arith))
           (high (settled_bus W D d c cs s (e + 1)) os s0 l v sp cs k r s d c (e + 1) (n - 1) refl j (omega arith) (omega arith) m g run y)
       go true x =
           let b = unwrap_or c true in
-          plain hs (settled_bus W D d c cs s e) cs os s0 (Some l) (Some l) (watch (suc k) true v sp) (watch (suc (suc k)) false v (fallen sp.latched sp.letters)) n (ticks_of_letter * r) h
+          plain (settled_bus W D d c cs s e) cs os s0 (Some l) (Some l) (watch (suc k) true v sp)
+          (watch (suc (suc k)) false v (fallen sp.latched sp.letters)) n (ticks_of_letter * r) h
           (low_bus W D d (advance W b cs) (taken D c s) (asked c h) 0) Fall g.armed
           (settled_falls W D d c cs s e h g.timed j x) refl (settled_fall_quiet W c e cs) refl refl fall_no
           (ap (λ x. watch (suc (suc k)) false x (fallen sp.latched sp.letters)) (marks_none W v cs)) (inl (omega arith))
-          (low (low_bus W D d (advance W b cs) (taken D c s) (asked c h) 0) os s0 l v (fallen sp.latched sp.letters) (advance W b cs) (suc k) r (taken D c s) d (asked c h) 0 (ticks_of_letter * r) refl
+          (low (low_bus W D d (advance W b cs) (taken D c s) (asked c h) 0) os s0 l v (fallen sp.latched sp.letters) (advance W b cs)
+          (suc k) r (taken D c s) d (asked c h) 0 (ticks_of_letter * r) refl
           (asked_to c h hh) (omega arith) (omega arith) (m.0 ∙ sym (marked_advance W b l cs), m.1) (crew_advance W b l os cs g) run y)
-
-  -- the tick after the rise: a bit
-  fresh_bit : (hs : H.State) (os : Tasks W) (s0 : D.S) (l : Tasks W) (v : List Bool) (sp : Spell) (cs : List (Cell W)) (k r : ℕ) (s : D.S) (b : Bool) (n h j : ℕ) →
-      carries W D cs s ≡ b → n + ticks_of_low ≡ ticks_of_letter * r → (v ≡ marked W (early_lost b) l cs) × (sp ≡ spell (Some b) (spelled W D (begins W l) (D.begin s0) k)) → Crew W l os cs →
-      Run W D left Alike (begins W l) (D.begin s0) k r (cursors W cs) s → Fit W D Fits Rest os l s0 →
-      least W cs ≡ j → j ≤ 4 → (j ≡ 1 → ⊥) → (j ≡ 2 → ⊥) → tick W D (fresh_bus W D b cs s) h ≡ settled_bus W D b (Some b) (stay W j cs) s 1 → tick_verdicts W D (fresh_bus W D b cs s) ≡ notes W (late W j) cs →
-      not (some W holds (stay W j cs) || D.pulls s) ≡ b → Every W (λ x. (early_lost b x || late_lost j x) ≡ not (eqb (rank x) j)) cs →
-      Real hs (fresh_bus W D b cs s) os s0 (Some l) (watch (suc k) true v sp) n h
-  fresh_bit hs os s0 l v sp cs k zero s b n h j c z m g run y e j4 j1 j2 q f d ev = let a = some_left W D left Alike laws (begins W l) (D.begin s0) k 0 cs s run g.living in absurd (omega arith)
-  fresh_bit hs os s0 l v sp cs k (suc r) s b n h j c z m g run y e j4 j1 j2 q f d ev =
-      let u = fresh_bus W D b cs s in
-      let u' = settled_bus W D b (Some b) (stay W j cs) s 1 in
-      let ks = notes W (late W j) cs in
-      by_tick hs u os s0 (Some l) (watch (suc k) true v sp) n h u' ks q f
-      (subst (λ x. Fine hs os s0 (Some l) (watch (suc k) true v sp) n u' x ks) (sym (steady b))
-      (silent hs os s0 (Some l) (Some l) (watch (suc k) true v sp) (watch (suc k) true (marked W never l (stay W j cs)) sp) n (n - 2) u' SteadyHigh ks
-      refl refl high_no (ap (λ x. watch (suc k) true x sp) (ap (λ x. marks_too W x ks) m.0 ∙ marked_more W (early_lost b) (late_lost j) (late W j) (late_is W j) l cs g.within
-      ∙ marked_stay W (λ x. early_lost b x || late_lost j x) j l cs ev))
-      (tells_none W (late W j) (late_mute W j j1) cs ∙ ap nobody (sym g.armed))
-      (loses_here sp s0 l os v (early_lost b) (late_lost j) (late W j) (late_is W j) cs k (suc r) s m.0 g run (λ x a. late_new j x b (λ p. absurd (j2 p)) a)
-      (λ x a p. late_behind j x a (ap rank p ∙ leads W cs g.living ∙ e)))
-      (inl (omega arith))
-      (high u' os s0 l (marked W never l (stay W j cs)) sp (stay W j cs) k r s b (Some b) 1 (n - 2) refl d (omega arith) (omega arith) (refl, spells_on, record { slots_gone = k; most = omega arith; letters = ap (λ x. x.letters) m.1; side = ap (λ x. x.side) run.runs }) (crew_stay W j l os cs e j4 g)
-      (subst (λ x. Run W D left Alike (begins W l) (D.begin s0) (suc k) r (cursors W (advance W x (stay W j cs))) (D.bit s x)) c
-      (run_bit W D left Alike laws (begins W l) (D.begin s0) k r cs s j run g.living e j1 j2)) y)))
-    where
-      at_lead : rank (lead W (cursors W cs)) ≡ j
-      at_lead = leads W cs g.living ∙ e
-
-      spells_on : fallen sp.latched sp.letters ≡ spell None (spelled W D (begins W l) (D.begin s0) (suc k))
-      spells_on = ap (λ x. fallen x.latched x.letters) m.1 ∙ ap (spell None) (spells W D left Alike (begins W l) (D.begin s0) k (suc r) (cursors W cs) s (bit_letter b) run
-          (letter_bit D (lead W (cursors W cs)) s (λ z. j1 (sym at_lead ∙ z)) (λ z. j2 (sym at_lead ∙ z)) ∙ ap bit_letter (run_carries W D left Alike laws (begins W l) (D.begin s0) k (suc r) cs s run ∙ c)))
-
-  -- a repeated Start
-  fresh_again : (hs : H.State) (os : Tasks W) (s0 : D.S) (l : Tasks W) (v : List Bool) (sp : Spell) (cs : List (Cell W)) (k r : ℕ) (s : D.S) (n h : ℕ) →
-      carries W D cs s ≡ true → n + ticks_of_low ≡ ticks_of_letter * r → (v ≡ marked W (early_lost true) l cs) × (sp ≡ spell (Some true) (spelled W D (begins W l) (D.begin s0) k)) → Crew W l os cs →
-      Run W D left Alike (begins W l) (D.begin s0) k r (cursors W cs) s → Fit W D Fits Rest os l s0 →
-      least W cs ≡ 2 → tick W D (fresh_bus W D true cs s) h ≡ settled_bus W D false None (stay W 2 cs) (D.begin s) 0 → tick_verdicts W D (fresh_bus W D true cs s) ≡ notes W (late W 2) cs →
-      Every W (λ x. (early_lost true x || late_lost 2 x) ≡ not (eqb (rank x) 2)) cs →
-      Real hs (fresh_bus W D true cs s) os s0 (Some l) (watch (suc k) true v sp) n h
-  fresh_again hs os s0 l v sp cs k zero s n h c z m g run y e q f ev = let a = some_left W D left Alike laws (begins W l) (D.begin s0) k 0 cs s run g.living in absurd (omega arith)
-  fresh_again hs os s0 l v sp cs k (suc r) s n h c z m g run y e q f ev =
-      let u = fresh_bus W D true cs s in
-      let u' = settled_bus W D false None (stay W 2 cs) (D.begin s) 0 in
-      let ks = notes W (late W 2) cs in
-      let hr = holds_restart W cs e in
-      by_tick hs u os s0 (Some l) (watch (suc k) true v sp) n h u' ks q f
-      (silent hs os s0 (Some l) (Some l) (watch (suc k) true v sp) (watch (suc k) true (marked W never l (stay W 2 cs)) (spell None (sp.letters ++ (restart ∷ [])))) n (n - 1) u' Start ks
-      refl refl start_no (ap (λ x. watch (suc k) true x (spell None (sp.letters ++ (restart ∷ [])))) (ap (λ x. marks_too W x ks) m.0
-      ∙ marked_more W (early_lost true) (late_lost 2) (late W 2) (late_is W 2) l cs g.within ∙ marked_stay W (λ x. early_lost true x || late_lost 2 x) 2 l cs ev))
-      (tells_none W (late W 2) (late_mute W 2 (omega arith)) cs ∙ ap nobody (sym g.armed))
-      (loses_here (spell None (sp.letters ++ (restart ∷ []))) s0 l os v (early_lost true) (late_lost 2) (late W 2) (late_is W 2) cs k (suc r) s m.0 g run (λ x a. late_new 2 x true (λ p. refl) a)
-      (λ x a p. late_behind 2 x a (ap rank p ∙ leads W cs g.living ∙ e)))
-      (inl (omega arith))
-      (high u' os s0 l (marked W never l (stay W 2 cs)) (spell None (sp.letters ++ (restart ∷ []))) (stay W 2 cs) k r (D.begin s) false None 0 (n - 1) refl (ap (λ x. not (x || D.pulls (D.begin s))) hr)
-      (omega arith) (omega arith) (
-        refl,
-        ap (spell None) (append-nil (sp.letters ++ (restart ∷ []))) ∙ ap (λ x. spell None (x.letters ++ (restart ∷ []))) m.1 ∙ ap (spell None) (spells W D left Alike (begins W l) (D.begin s0) k (suc r) (cursors W cs) s restart run
-            (letter_again D (lead W (cursors W cs)) s (leads W cs g.living ∙ e))),
-        record {
-          slots_gone = suc k;
-          most = omega arith;
-          letters = ap (λ x. x.letters ++ (restart ∷ [])) m.1 ∙ spells W D left Alike (begins W l) (D.begin s0) k (suc r) (cursors W cs) s restart run
-              (letter_again D (lead W (cursors W cs)) s (leads W cs g.living ∙ e));
-          side = ap (λ x. x.side) (run_again W D left Alike laws (begins W l) (D.begin s0) k r cs s run g.living e).runs;
-        },
-      ) (crew_stay W 2 l os cs e (omega arith) g)
-      (subst (λ x. Run W D left Alike (begins W l) (D.begin s0) (suc k) r (cursors W (advance W x (stay W 2 cs))) (D.begin s)) c
-      (run_again W D left Alike laws (begins W l) (D.begin s0) k r cs s run g.living e)) y))
 
   none_at_stop : (x : Symbol) → late_lost 1 x ≡ false
   none_at_stop x = grind arith
 
-  -- the Stop
-  fresh_stop : (hs : H.State) (os : Tasks W) (s0 : D.S) (l : Tasks W) (v : List Bool) (sp : Spell) (cs : List (Cell W)) (k r : ℕ) (s : D.S) (n h : ℕ) →
-      (v ≡ marked W (early_lost false) l cs) × (sp ≡ spell (Some false) (spelled W D (begins W l) (D.begin s0) k)) → Crew W l os cs →
-      Run W D left Alike (begins W l) (D.begin s0) k r (cursors W cs) s → Fit W D Fits Rest os l s0 →
-      least W cs ≡ 1 → tick W D (fresh_bus W D false cs s) h ≡ free_bus W D (finished W cs) (D.finish s) → tick_verdicts W D (fresh_bus W D false cs s) ≡ notes W (late W 1) cs →
-      Every W (λ x. (1 ≤ rank x) × (rank x ≤ 3)) cs →
-      Real hs (fresh_bus W D false cs s) os s0 (Some l) (watch (suc k) true v sp) n h
-  fresh_stop hs os s0 l v sp cs k r s n h m g run y e q f ev =
-      by_tick hs (fresh_bus W D false cs s) os s0 (Some l) (watch (suc k) true v sp) n h (free_bus W D (finished W cs) (D.finish s)) (notes W (late W 1) cs) q f
-      (record {
-        due = ticks_of_turn;
-        stands = idle (free_bus W D (finished W cs) (D.finish s)) (disarm os ts) (leader_side W D left (leader W D left l (D.begin s0)) (D.begin s0))
-            (sees W (watch (suc k) true v sp) os (Some l) Stop (notes W (late W 1) cs)) (finished W cs)
-            (ap (free_bus W D (finished W cs)) (sym side)) (ap₂ (disarm) g.armed (sym told_is) ∙ sym (armeds_finished W cs)) (timed_finished W cs g.timed) (holding_finished W cs) rested
-            (λ j p a. y.armed j p (disarmed os ts j p a).0);
-        tells = tells_end W cs ∙ told_is;
-        counts = ap₂ (λ a b. count (disarm a b) + count b) g.armed (sym told_is) ∙ counts_end W cs g.holding ∙ ap count (sym g.armed);
-        loses = λ i b. let w = note_at W (late W 1) cs i b in
-            let z : true ≡ false = sym (ap (is_lost W) w.2) ∙ (late_is W 1 (W.symbol w.0) w.0 ∙ none_at_stop (W.symbol w.0)) in cc;
-        stops = λ st l' el i p a.
-            let z : l ≡ l' = cc in
-            subst (λ x. Stopped W D left x s0 v (tellings W (notes W (late W 1) cs)) i p) z (stopped i p (ap (λ x. at x i) z ∙ a));
-        spelled = λ st l' el. let z : l ≡ l' = cc in subst (λ x. Spelled W D left x s0 (sp.letters ++ (stop ∷ []))) z spells_all;
-        falls = inl (let c = somebody_told W cs e in let d = ap count told_is in omega arith);
-      })
-    where
-      stops_here : rank (lead W (cursors W cs)) ≡ 1
-      stops_here = leads W cs g.living ∙ e
+  -- the tick after the rise in the slot k; r slots are left at the most behind it
+  module _ (os l : Tasks W) (s0 : D.S) (v : List Bool) (sp : Spell) (cs : List (Cell W)) (k r : ℕ) (s : D.S) (n h : ℕ)
+      (fit : n + ticks_of_low ≡ ticks_of_letter * suc r) (g : Crew W l os cs) (run : Slots l s0 k (suc r) (cursors W cs) s)
+      (y : Fits_in os l s0) where
+    abbrev before : Monitor
+    before = watch (suc k) true v sp
 
-      ts : List (Option W.Outcome)
-      ts = outcomes W D left l (leader W D left l (D.begin s0)) (D.begin s0)
+    -- where the slot carries b
+    abbrev Rises : Bool → Type 0
+    Rises b = (v ≡ marked W (early_lost b) l cs) × (sp ≡ spell (Some b) (text l s0 k)) →
+        Real (fresh_bus W D b cs s) os s0 (Some l) before n h
 
-      told_is : ending W (cursors W cs) ≡ outcomes W D left l (leader W D left l (D.begin s0)) (D.begin s0)
-      told_is = told_at_stop W D left Alike laws l (D.begin s0) k r cs s run stops_here g.within
+    led_by : (j : ℕ) → least W cs ≡ j → rank (lead W (cursors W cs)) ≡ j
+    led_by j e = leads W cs g.living ∙ e
 
-      stopped : (i : ℕ) (p : W.Task) → at l i ≡ Some p → Stopped W D left l s0 v (tellings W (notes W (late W 1) cs)) i p
-      stopped i p a =
-          let w : is_some (at (tellings W (notes W (late W 1) cs)) i) ≡ wins W D left p (leader W D left l (D.begin s0)) (D.begin s0) =
-          ap (λ x. is_some (at x i)) (tells_end W cs ∙ told_is) ∙ outcome_at W D left (leader W D left l (D.begin s0)) (D.begin s0) l i p a in
+    spelt : (c : Letter) → letter D (lead W (cursors W cs)) s ≡ c → text l s0 k ++ (c ∷ []) ≡ text l s0 (suc k)
+    spelt c e = spells W D left Alike (begins W l) (D.begin s0) k (suc r) (cursors W cs) s c run e
+
+    loses_late : (sp' : Spell) (b : Bool) (j : ℕ) → v ≡ marked W (early_lost b) l cs → least W cs ≡ j → (j ≡ 2 → b ≡ true) →
+        (i : ℕ) → slice_index_or (notes W (late W j) cs) i quiet ≡ lost → Loses W D left (Some l) s0 v (watch (suc k) true v sp') i
+    loses_late sp' b j m e again =
+        loses_here sp' s0 l os v (early_lost b) (late_lost j) (late W j) (late_is W j) cs k (suc r) s m g run
+        (λ x a. late_new j x b again a) (λ x a p. late_behind j x a (ap rank p ∙ led_by j e))
+
+    marks_late : (b : Bool) (j : ℕ) → v ≡ marked W (early_lost b) l cs →
+        Every W (λ x. (early_lost b x || late_lost j x) ≡ not (eqb (rank x) j)) cs →
+        marks_too W v (notes W (late W j) cs) ≡ marked W never l (stay W j cs)
+    marks_late b j m ev =
+        ap (λ x. marks_too W x (notes W (late W j) cs)) m
+        ∙ marked_more W (early_lost b) (late_lost j) (late W j) (late_is W j) l cs g.within
+        ∙ marked_stay W (λ x. early_lost b x || late_lost j x) j l cs ev
+
+    fresh_bit : (b : Bool) (j : ℕ) → carries W D cs s ≡ b → least W cs ≡ j → j ≤ 4 → (j ≡ 1 → ⊥) → (j ≡ 2 → ⊥) →
+        tick W D (fresh_bus W D b cs s) h ≡ settled_bus W D b (Some b) (stay W j cs) s 1 →
+        tick_verdicts W D (fresh_bus W D b cs s) ≡ notes W (late W j) cs →
+        not (some W holds (stay W j cs) || D.pulls s) ≡ b →
+        Every W (λ x. (early_lost b x || late_lost j x) ≡ not (eqb (rank x) j)) cs → Rises b
+    fresh_bit b j c e j4 j1 j2 q f d ev m =
+        let u' = settled_bus W D b (Some b) (stay W j cs) s 1 in
+        let ks = notes W (late W j) cs in
+        by_tick (fresh_bus W D b cs s) os s0 (Some l) before n h u' ks q f
+        (subst (λ x. Fine os s0 (Some l) before n u' x ks) (sym (steady b))
+        (silent os s0 (Some l) (Some l) before (watch (suc k) true (marked W never l (stay W j cs)) sp) n (n - 2) u' SteadyHigh ks
+        refl refl high_no (ap (λ x. watch (suc k) true x sp) (marks_late b j m.0 ev))
+        (tells_none W (late W j) (late_mute W j j1) cs ∙ ap nobody (sym g.armed))
+        (loses_late sp b j m.0 e (λ p. absurd (j2 p))) (inl (omega arith))
+        (high u' os s0 l (marked W never l (stay W j cs)) sp (stay W j cs) k r s b (Some b) 1 (n - 2) refl d (omega arith) (omega arith) (
+          refl,
+          spells_on,
           record {
-            unmarked = ap (λ x. is_some (at x i)) (tells_end W cs) ∙ tells_unmarked W l cs g.within ev i p a ∙ ap (λ x. not (slice_index_or x i false)) (sym m.0);
-            least = λ h. wins_least W D left Alike laws l (D.begin s0) k r (cursors W cs) s run i p a (sym w ∙ h);
-            wins = λ h. w ∙ least_wins W D left Alike laws l (D.begin s0) k r (cursors W cs) s run i p a h;
-          }
+            slots_gone = k;
+            most = omega arith;
+            letters = ap (λ x. x.letters) m.1;
+            side = ap (λ x. x.side) run.runs;
+          },
+        )
+        (crew_stay W j l os cs e j4 g)
+        (subst (λ x. Slots l s0 (suc k) r (cursors W (advance W x (stay W j cs))) (D.bit s x)) c
+        (run_bit W D left Alike laws (begins W l) (D.begin s0) k r cs s j run g.living e j1 j2)) y)))
+      where
+        spells_on : fallen sp.latched sp.letters ≡ spell None (text l s0 (suc k))
+        spells_on = ap (λ x. fallen x.latched x.letters) m.1 ∙ ap (spell None) (spelt (bit_letter b)
+            (letter_bit D (lead W (cursors W cs)) s (λ z. j1 (sym (led_by j e) ∙ z)) (λ z. j2 (sym (led_by j e) ∙ z))
+            ∙ ap bit_letter (run_carries W D left Alike laws (begins W l) (D.begin s0) k (suc r) cs s run ∙ c)))
 
-      rested : Rest (leader_side W D left (leader W D left l (D.begin s0)) (D.begin s0))
-      rested =
-          let a = alive_at W cs g.living in
-          let b = contender W l cs g.within a.0 a.1.0 a.1.1 in
-          let x = stop_spells W D left Alike laws l (D.begin s0) k r (cursors W cs) s run stops_here a.0 b.0 b.1 in
-          let j = leader_in W D left l (D.begin s0) x.0 x.1 in
-          subst (λ o. Rest (leader_side W D left o (D.begin s0))) (sym x.1) (plays.rests x.0 s0 (y.turn j.0 x.0 j.1) y.rest)
-
-      spells_all : Spelled W D left l s0 (sp.letters ++ (stop ∷ []))
-      spells_all =
-          let a = alive_at W cs g.living in
-          let b = contender W l cs g.within a.0 a.1.0 a.1.1 in
-          let x = stop_spells W D left Alike laws l (D.begin s0) k r (cursors W cs) s run stops_here a.0 b.0 b.1 in
+    fresh_again : carries W D cs s ≡ true → least W cs ≡ 2 →
+        tick W D (fresh_bus W D true cs s) h ≡ settled_bus W D false None (stay W 2 cs) (D.begin s) 0 →
+        tick_verdicts W D (fresh_bus W D true cs s) ≡ notes W (late W 2) cs →
+        Every W (λ x. (early_lost true x || late_lost 2 x) ≡ not (eqb (rank x) 2)) cs → Rises true
+    fresh_again c e q f ev m =
+        let u' = settled_bus W D false None (stay W 2 cs) (D.begin s) 0 in
+        let ks = notes W (late W 2) cs in
+        by_tick (fresh_bus W D true cs s) os s0 (Some l) before n h u' ks q f
+        (silent os s0 (Some l) (Some l) before (watch (suc k) true (marked W never l (stay W 2 cs)) sp') n (n - 1) u' Start ks
+        refl refl start_no (ap (λ x. watch (suc k) true x sp') (marks_late true 2 m.0 ev))
+        (tells_none W (late W 2) (late_mute W 2 (omega arith)) cs ∙ ap nobody (sym g.armed))
+        (loses_late sp' true 2 m.0 e (λ p. refl)) (inl (omega arith))
+        (high u' os s0 l (marked W never l (stay W 2 cs)) sp' (stay W 2 cs) k r (D.begin s) false None 0 (n - 1) refl
+        (ap (λ x. not (x || D.pulls (D.begin s))) (holds_restart W cs e)) (omega arith) (omega arith) (
+          refl,
+          ap (spell None) (append-nil sp'.letters ∙ spells_on),
           record {
-            least = x.0;
-            leads = x.1;
-            whole = ap (λ x. x.letters ++ (stop ∷ [])) m.1 ∙ spells W D left Alike (begins W l) (D.begin s0) k r (cursors W cs) s stop run
-                (letter_stop D (lead W (cursors W cs)) s stops_here) ∙ x.2;
-          }
+            slots_gone = suc k;
+            most = omega arith;
+            letters = spells_on;
+            side = ap (λ x. x.side) (run_again W D left Alike laws (begins W l) (D.begin s0) k r cs s run g.living e).runs;
+          },
+        ) (crew_stay W 2 l os cs e (omega arith) g)
+        (subst (λ x. Slots l s0 (suc k) r (cursors W (advance W x (stay W 2 cs))) (D.begin s)) c
+        (run_again W D left Alike laws (begins W l) (D.begin s0) k r cs s run g.living e)) y))
+      where
+        sp' : Spell
+        sp' = spell None (sp.letters ++ (restart ∷ []))
 
-      side : leader_side W D left (leader W D left l (D.begin s0)) (D.begin s0) ≡ D.finish s
-      side =
-          let a = alive_at W cs g.living in
-          let b = contender W l cs g.within a.0 a.1.0 a.1.1 in
-          stop_side W D left Alike laws l (D.begin s0) k r (cursors W cs) s run stops_here a.0 b.0 b.1
+        spells_on : sp.letters ++ (restart ∷ []) ≡ text l s0 (suc k)
+        spells_on = ap (λ x. x.letters ++ (restart ∷ [])) m.1 ∙ spelt restart (letter_again D (lead W (cursors W cs)) s (led_by 2 e))
 
-  tick_rises : (hs : H.State) (os : Tasks W) (s0 : D.S) (l : Tasks W) (v : List Bool) (sp : Spell) (cs : List (Cell W)) (k r : ℕ) (s : D.S) (b : Bool) (n h j : ℕ) → least W cs ≡ j → j ≤ 4 →
-      carries W D cs s ≡ b → n + ticks_of_low ≡ ticks_of_letter * r → (v ≡ marked W (early_lost b) l cs) × (sp ≡ spell (Some b) (spelled W D (begins W l) (D.begin s0) k)) → Crew W l os cs →
-      Run W D left Alike (begins W l) (D.begin s0) k r (cursors W cs) s → Fit W D Fits Rest os l s0 →
-      Shape W D cs s → Real hs (fresh_bus W D b cs s) os s0 (Some l) (watch (suc k) true v sp) n h
-  tick_rises hs os s0 l v sp cs k r s b n h zero e j4 c z m g run y q =
-      let x = fresh_zero W D cs s h g.timed q e in
-      let w = shaped W D 0 cs s (omega arith) e q in
-      let o = holds_zero W cs e in
-      subst (λ b. (v ≡ marked W (early_lost b) l cs) × (sp ≡ spell (Some b) (spelled W D (begins W l) (D.begin s0) k)) → Real hs (fresh_bus W D b cs s) os s0 (Some l) (watch (suc k) true v sp) n h) (sym x.0 ∙ c)
-      (λ m. fresh_bit hs os s0 l v sp cs k r s false n h 0 x.0 z m g run y e j4 (omega arith) (omega arith) x.1 x.2 (cc)
-      (every W (λ x. (0 ≤ rank x) × (rank x ≤ 3)) (λ x. (early_lost false x || late_lost 0 x) ≡ not (eqb (rank x) 0)) (slot_low 0 (omega arith)) cs w.0)) m
-  tick_rises hs os s0 l v sp cs k r s b n h (suc zero) e j4 c z m g run y q =
-      let x = fresh_end W D cs s h g.timed q e in
-      let w = shaped W D 1 cs s (omega arith) e q in
-      subst (λ b. (v ≡ marked W (early_lost b) l cs) × (sp ≡ spell (Some b) (spelled W D (begins W l) (D.begin s0) k)) → Real hs (fresh_bus W D b cs s) os s0 (Some l) (watch (suc k) true v sp) n h) (sym x.0 ∙ c)
-      (λ m. fresh_stop hs os s0 l v sp cs k r s n h m g run y e x.1 x.2 w.0) m
-  tick_rises hs os s0 l v sp cs k r s b n h (suc (suc zero)) e j4 c z m g run y q =
-      let x = fresh_restart W D cs s h g.timed q e in
-      let w = shaped W D 2 cs s (omega arith) e q in
-      subst (λ b. (v ≡ marked W (early_lost b) l cs) × (sp ≡ spell (Some b) (spelled W D (begins W l) (D.begin s0) k)) → Real hs (fresh_bus W D b cs s) os s0 (Some l) (watch (suc k) true v sp) n h) (sym x.0 ∙ c)
-      (λ m. fresh_again hs os s0 l v sp cs k r s n h x.0 z m g run y e x.1 x.2 (every W (λ x. (2 ≤ rank x) × (rank x ≤ 3)) (λ x. (early_lost true x || late_lost 2 x) ≡ not (eqb (rank x) 2))
-      (slot_high 2 (omega arith) (omega arith)) cs w.0)) m
-  tick_rises hs os s0 l v sp cs k r s b n h (suc (suc (suc zero))) e j4 c z m g run y q =
-      let x = fresh_one W D cs s h g.timed q e in
-      let w = shaped W D 3 cs s (omega arith) e q in
-      let f = w.1 in
-      let o = holds_not W 3 cs (omega arith) e in
-      subst (λ b. (v ≡ marked W (early_lost b) l cs) × (sp ≡ spell (Some b) (spelled W D (begins W l) (D.begin s0) k)) → Real hs (fresh_bus W D b cs s) os s0 (Some l) (watch (suc k) true v sp) n h) (sym x.0 ∙ c)
-      (λ m. fresh_bit hs os s0 l v sp cs k r s true n h 3 x.0 z m g run y e j4 (omega arith) (omega arith) x.1 x.2 (cc)
-      (every W (λ x. (3 ≤ rank x) × (rank x ≤ 3)) (λ x. (early_lost true x || late_lost 3 x) ≡ not (eqb (rank x) 3)) (slot_high 3 (omega arith) (omega arith)) cs w.0)) m
-  tick_rises hs os s0 l v sp cs k r s b n h (suc (suc (suc (suc zero)))) e j4 c z m g run y q =
-      let x = fresh_listen W D (not (D.pulls s)) cs s h g.timed e refl in
-      let w = every W (λ x. 4 ≤ rank x) (λ x. rank x ≡ 4) (λ x h. omega (arith, rank_top x)) cs (least_below W 4 cs (omega arith)) in
-      let o = holds_not W 4 cs (omega arith) e in
-      subst (λ b. (v ≡ marked W (early_lost b) l cs) × (sp ≡ spell (Some b) (spelled W D (begins W l) (D.begin s0) k)) → Real hs (fresh_bus W D b cs s) os s0 (Some l) (watch (suc k) true v sp) n h) (sym x.0 ∙ c)
-      (λ m. fresh_bit hs os s0 l v sp cs k r s (not (D.pulls s)) n h 4 x.0 z m g run y e j4 (omega arith) (omega arith) x.1 x.2 (cc)
-      (every W (λ x. rank x ≡ 4) (λ x. (early_lost (not (D.pulls s)) x || late_lost 4 x) ≡ not (eqb (rank x) 4)) (slot_listen (not (D.pulls s))) cs w)) m
-  tick_rises hs os s0 l v sp cs k r s b n h (suc (suc (suc (suc (suc j))))) e j4 c z m g run y q = absurd (omega arith)
+    fresh_stop : least W cs ≡ 1 → tick W D (fresh_bus W D false cs s) h ≡ free_bus W D (finished W cs) (D.finish s) →
+        tick_verdicts W D (fresh_bus W D false cs s) ≡ notes W (late W 1) cs →
+        Every W (λ x. (1 ≤ rank x) × (rank x ≤ 3)) cs → Rises false
+    fresh_stop e q f ev m =
+        by_tick (fresh_bus W D false cs s) os s0 (Some l) before n h (free_bus W D (finished W cs) (D.finish s)) (notes W (late W 1) cs) q f
+        (record {
+          due = ticks_of_turn;
+          stands = idle (free_bus W D (finished W cs) (D.finish s)) (disarm os ts) (leader_side W D left first (D.begin s0))
+              (sees W before os (Some l) Stop (notes W (late W 1) cs)) (finished W cs)
+              (ap (free_bus W D (finished W cs)) (sym side)) (ap₂ disarm g.armed (sym told_is) ∙ sym (armeds_finished W cs))
+              (timed_finished W cs g.timed) (holding_finished W cs) rested
+              (λ j p a. y.armed j p (disarmed os ts j p a).0);
+          tells = tells_end W cs ∙ told_is;
+          counts = ap₂ (λ a b. count (disarm a b) + count b) g.armed (sym told_is) ∙ counts_end W cs g.holding ∙ ap count (sym g.armed);
+          loses = λ i b. let w = note_at W (late W 1) cs i b in
+              let z : true ≡ false = sym (ap (is_lost W) w.2) ∙ (late_is W 1 (W.symbol w.0) w.0 ∙ none_at_stop (W.symbol w.0)) in cc;
+          stops = λ st l' el i p a.
+              let z : l ≡ l' = cc in
+              subst (λ x. Stopped W D left x s0 v (tellings W (notes W (late W 1) cs)) i p) z (stopped i p (ap (λ x. at x i) z ∙ a));
+          spelled = λ st l' el. let z : l ≡ l' = cc in subst (λ x. Spelled W D left x s0 (sp.letters ++ (stop ∷ []))) z spells_all;
+          falls = inl (let c = somebody_told W cs e in let d = ap count told_is in omega arith);
+        })
+      where
+        stops_here : rank (lead W (cursors W cs)) ≡ 1
+        stops_here = led_by 1 e
+
+        first : Option W.Task
+        first = leader W D left l (D.begin s0)
+
+        ts : List (Option W.Outcome)
+        ts = outcomes W D left l first (D.begin s0)
+
+        told_is : ending W (cursors W cs) ≡ ts
+        told_is = told_at_stop W D left Alike laws l (D.begin s0) k (suc r) cs s run stops_here g.within
+
+        stopped : (i : ℕ) (p : W.Task) → at l i ≡ Some p → Stopped W D left l s0 v (tellings W (notes W (late W 1) cs)) i p
+        stopped i p a =
+            let w : is_some (at (tellings W (notes W (late W 1) cs)) i) ≡ wins W D left p first (D.begin s0) =
+            ap (λ x. is_some (at x i)) (tells_end W cs ∙ told_is) ∙ outcome_at W D left first (D.begin s0) l i p a in
+            record {
+              unmarked = ap (λ x. is_some (at x i)) (tells_end W cs) ∙ tells_unmarked W l cs g.within ev i p a
+                  ∙ ap (λ x. not (slice_index_or x i false)) (sym m.0);
+              least = λ h. wins_least W D left Alike laws l (D.begin s0) k (suc r) (cursors W cs) s run i p a (sym w ∙ h);
+              wins = λ h. w ∙ least_wins W D left Alike laws l (D.begin s0) k (suc r) (cursors W cs) s run i p a h;
+            }
+
+        -- a contender that shows the stop, and the leader
+        one : (i : ℕ) × ((q : W.Task) × (at l i ≡ Some q))
+        one = let a = alive_at W cs g.living in (a.0, contender W l cs g.within a.0 a.1.0 a.1.1)
+
+        led : (x : W.Task) × (first ≡ Some x) × (text l s0 (suc k) ≡ task_string W D left x (D.begin s0))
+        led = stop_spells W D left Alike laws l (D.begin s0) k (suc r) (cursors W cs) s run stops_here one.0 one.1.0 one.1.1
+
+        rested : Rest (leader_side W D left first (D.begin s0))
+        rested = let j = leader_in W D left l (D.begin s0) led.0 led.1 in
+            subst (λ o. Rest (leader_side W D left o (D.begin s0))) (sym led.1) (plays.rests led.0 s0 (y.turn j.0 led.0 j.1) y.rest)
+
+        spells_all : Spelled W D left l s0 (sp.letters ++ (stop ∷ []))
+        spells_all = record {
+          least = led.0;
+          leads = led.1;
+          whole = ap (λ x. x.letters ++ (stop ∷ [])) m.1 ∙ spelt stop (letter_stop D (lead W (cursors W cs)) s stops_here) ∙ led.2;
+        }
+
+        side : leader_side W D left first (D.begin s0) ≡ D.finish s
+        side = stop_side W D left Alike laws l (D.begin s0) k (suc r) (cursors W cs) s run stops_here one.0 one.1.0 one.1.1
+
+    -- b is what the slot carries, so it is what the least symbol shows
+    rises_as : (b c : Bool) → carries W D cs s ≡ b → carries W D cs s ≡ c → Rises c → Rises b
+    rises_as b c e f z = subst Rises (sym f ∙ e) z
+
+    rises : (b : Bool) → carries W D cs s ≡ b → Shape W D cs s → (j : ℕ) → least W cs ≡ j → j ≤ 4 → Rises b
+    rises b c q zero e j4 =
+        let x = fresh_zero W D cs s h g.timed q e in
+        let w = shaped W D 0 cs s (omega arith) e q in
+        let o = holds_zero W cs e in
+        rises_as b false c x.0 (fresh_bit false 0 x.0 e j4 (omega arith) (omega arith) x.1 x.2 (cc)
+        (every W (λ x. (0 ≤ rank x) × (rank x ≤ 3)) (λ x. (early_lost false x || late_lost 0 x) ≡ not (eqb (rank x) 0))
+        (slot_low 0 (omega arith)) cs w.0))
+    rises b c q (suc zero) e j4 =
+        let x = fresh_end W D cs s h g.timed q e in
+        let w = shaped W D 1 cs s (omega arith) e q in
+        rises_as b false c x.0 (fresh_stop e x.1 x.2 w.0)
+    rises b c q (suc (suc zero)) e j4 =
+        let x = fresh_restart W D cs s h g.timed q e in
+        let w = shaped W D 2 cs s (omega arith) e q in
+        rises_as b true c x.0 (fresh_again x.0 e x.1 x.2
+        (every W (λ x. (2 ≤ rank x) × (rank x ≤ 3)) (λ x. (early_lost true x || late_lost 2 x) ≡ not (eqb (rank x) 2))
+        (slot_high 2 (omega arith) (omega arith)) cs w.0))
+    rises b c q (suc (suc (suc zero))) e j4 =
+        let x = fresh_one W D cs s h g.timed q e in
+        let w = shaped W D 3 cs s (omega arith) e q in
+        let f = w.1 in
+        let o = holds_not W 3 cs (omega arith) e in
+        rises_as b true c x.0 (fresh_bit true 3 x.0 e j4 (omega arith) (omega arith) x.1 x.2 (cc)
+        (every W (λ x. (3 ≤ rank x) × (rank x ≤ 3)) (λ x. (early_lost true x || late_lost 3 x) ≡ not (eqb (rank x) 3))
+        (slot_high 3 (omega arith) (omega arith)) cs w.0))
+    rises b c q (suc (suc (suc (suc zero)))) e j4 =
+        let d = not (D.pulls s) in
+        let x = fresh_listen W D d cs s h g.timed e refl in
+        let w = every W (λ x. 4 ≤ rank x) (λ x. rank x ≡ 4) (λ x h. omega (arith, rank_top x)) cs (least_below W 4 cs (omega arith)) in
+        let o = holds_not W 4 cs (omega arith) e in
+        rises_as b d c x.0 (fresh_bit d 4 x.0 e j4 (omega arith) (omega arith) x.1 x.2 (cc)
+        (every W (λ x. rank x ≡ 4) (λ x. (early_lost d x || late_lost 4 x) ≡ not (eqb (rank x) 4)) (slot_listen d) cs w))
+    rises b c q (suc (suc (suc (suc (suc j))))) e j4 = absurd (omega arith)
+
+  tick_rises : (os : Tasks W) (s0 : D.S) (l : Tasks W) (v : List Bool) (sp : Spell) (cs : List (Cell W)) (k r : ℕ) (s : D.S) (b : Bool)
+      (n h : ℕ) → carries W D cs s ≡ b → n + ticks_of_low ≡ ticks_of_letter * r →
+      (v ≡ marked W (early_lost b) l cs) × (sp ≡ spell (Some b) (text l s0 k)) → Crew W l os cs →
+      Slots l s0 k r (cursors W cs) s → Fits_in os l s0 → Real (fresh_bus W D b cs s) os s0 (Some l) (watch (suc k) true v sp) n h
+  tick_rises os s0 l v sp cs k zero s b n h c z m g run y =
+      let a = some_left W D left Alike laws (begins W l) (D.begin s0) k 0 cs s run g.living in absurd (omega arith)
+  tick_rises os s0 l v sp cs k (suc r) s b n h c z m g run y =
+      rises os l s0 v sp cs k r s n h z g run y b c (run_shape W D left Alike laws (begins W l) (D.begin s0) k (suc r) cs s run g.living)
+      (least W cs) refl (alive_least W cs g.living) m
 
   -- a tick in any phase
-  pub tick_stands : (hs : H.State) (u : Bus W D) (os : Tasks W) (s : D.S) (t : Option (Tasks W)) (w : Monitor) (n h : ℕ) → h ≤ most_count → Stands W D left Alike Fits Rest u os s t w n → Real hs u os s t w n h
-  tick_stands hs _ _ _ _ _ _ h hh (idle u os s w cs e a t g q y) = subst (λ x. Real hs x os s None w ticks_of_turn h) (sym e) (tick_idle hs os s w cs h a t g q y)
-  tick_stands hs _ _ _ _ _ _ h hh (claims u os s l v sp cs e m g q y) = subst (λ x. Real hs x os s (Some l) (watch 0 false v sp) (ticks_of_turn - 1) h) (sym e) (tick_claims hs os s l v sp cs h m g q y)
-  tick_stands hs _ _ _ _ _ _ h hh (begun u os s l v sp cs k n e b c m g q y) = subst (λ x. Real hs x os s (Some l) (watch 0 false v sp) n h) (sym e) (tick_begun hs os s l v sp cs k n h b c m g q y)
-  tick_stands hs _ _ _ _ _ _ h hh (low u os s0 l v sp cs k r s d f f' n e b b' c m g q y) = subst (λ x. Real hs x os s0 (Some l) (watch (suc k) false v sp) n h) (sym e)
-      (tick_low hs os s0 l v sp cs k r s d f f' n h b b' c m g q y)
-  tick_stands hs _ _ _ _ _ _ h hh (rose u os s0 l v sp cs k r s b n e j c m g q y) =
-      subst (λ x. Real hs x os s0 (Some l) (watch (suc k) true v sp) n h) (sym e)
-      (tick_rises hs os s0 l v sp cs k r s b n h (least W cs) refl (alive_least W cs g.living) j c m g q y (run_shape W D left Alike laws (begins W l) (D.begin s0) k r cs s q g.living))
-  tick_stands hs _ _ _ _ _ _ h hh (high u os s0 l v sp cs k r s d c f n e j o z m g q y) = subst (λ x. Real hs x os s0 (Some l) (watch (suc k) true v sp) n h) (sym e)
-      (tick_high hs os s0 l v sp cs k r s d c f n h hh j o z m g q y)
+  pub tick_stands : (u : Bus W D) (os : Tasks W) (s : D.S) (t : Option (Tasks W)) (w : Monitor) (n h : ℕ) → h ≤ most_count →
+      StandsAs u os s t w n → Real u os s t w n h
+  tick_stands _ _ _ _ _ _ h hh (idle u os s w cs e a t g q y) =
+      subst (λ x. Real x os s None w ticks_of_turn h) (sym e) (tick_idle os s w cs h a t g q y)
+  tick_stands _ _ _ _ _ _ h hh (claims u os s l v sp cs e m g q y) =
+      subst (λ x. Real x os s (Some l) (watch 0 false v sp) (ticks_of_turn - 1) h) (sym e) (tick_claims os s l v sp cs h m g q y)
+  tick_stands _ _ _ _ _ _ h hh (begun u os s l v sp cs k n e b c m g q y) =
+      subst (λ x. Real x os s (Some l) (watch 0 false v sp) n h) (sym e) (tick_begun os s l v sp cs k n h b c m g q y)
+  tick_stands _ _ _ _ _ _ h hh (low u os s0 l v sp cs k r s d f f' n e b b' c m g q y) =
+      subst (λ x. Real x os s0 (Some l) (watch (suc k) false v sp) n h) (sym e)
+      (tick_low os s0 l v sp cs k r s d f f' n h b b' c m g q y)
+  tick_stands _ _ _ _ _ _ h hh (rose u os s0 l v sp cs k r s b n e j c m g q y) =
+      subst (λ x. Real x os s0 (Some l) (watch (suc k) true v sp) n h) (sym e)
+      (tick_rises os s0 l v sp cs k r s b n h j c m g q y)
+  tick_stands _ _ _ _ _ _ h hh (high u os s0 l v sp cs k r s d c f n e j o z m g q y) =
+      subst (λ x. Real x os s0 (Some l) (watch (suc k) true v sp) n h) (sym e)
+      (tick_high os s0 l v sp cs k r s d c f n h hh j o z m g q y)

@@ -1,5 +1,6 @@
 -- The tick of the stop, by the cells: who is told, who stays armed, and that these are whom the book tells.
-use Rattle.std.proofs.Common.{◌≡◌, ℕ, zero, suc, ◌+◌, ◌≤◌, min, Bool, true, false, cond, not, ◌&&◌, eqb, ◌⊎◌, List, [], ◌∷◌, is_some, Some, None, Option, sym, refl, ap, ◌∙◌, ap₂, arith}
+use Rattle.std.proofs.Common.{◌≡◌, ℕ, zero, suc, ◌+◌, ◌≤◌, min, Bool, true, false, cond, not, ◌&&◌, eqb, ◌⊎◌, List, [], ◌∷◌, is_some, Some}
+use Rattle.std.proofs.Common.{None, Option, sym, refl, ap, ◌∙◌, ap₂, arith}
 use Rattle.std.specs.Prelude.{slice_index_or}
 use Rattle.std.proofs.lemmas.Bool.{eqb-true, eq-eqb, ne_eqb}
 use Rattle.master.specs.declared.symbol.Symbol.{Symbol}
@@ -13,7 +14,8 @@ use Rattle.law.proofs.Machine.CellsOfTurn.{cell_armeds, Holding, Within, marked}
 use Rattle.law.proofs.Machine.SlotsOfTurn.{Run}
 use Rattle.law.proofs.Machine.SlotsTellLeast.{stop_wins, stop_names}
 
-count_one : {A B : Type 0} (v : Bool) (a : Option A) (o : B) (l os : List (Option A)) (ts : List (Option B)) → is_some a ≡ true → count os + count ts ≡ count l →
+count_one : {A B : Type 0} (v : Bool) (a : Option A) (o : B) (l os : List (Option A)) (ts : List (Option B)) → is_some a ≡ true →
+    count os + count ts ≡ count l →
     count (disarm_one a (cond v (Some o) None) ∷ os) + count (cond v (Some o) None ∷ ts) ≡ count (a ∷ l)
 count_one v a o l os ts h k = grind arith
 
@@ -31,7 +33,8 @@ least_one a b h = grind arith
 disarmed_one : {A B : Type 0} (o : Option A) (t : Option B) (p : A) → disarm_one o t ≡ Some p → (o ≡ Some p) × (t ≡ None)
 disarmed_one o t p h = grind arith
 
-pub disarmed : {A B : Type 0} (os : List (Option A)) (ts : List (Option B)) (j : ℕ) (p : A) → at (disarm os ts) j ≡ Some p → (at os j ≡ Some p) × (at ts j ≡ None)
+pub disarmed : {A B : Type 0} (os : List (Option A)) (ts : List (Option B)) (j : ℕ) (p : A) → at (disarm os ts) j ≡ Some p →
+    (at os j ≡ Some p) × (at ts j ≡ None)
 disarmed [] ts j p e = cc
 disarmed (o ∷ os) [] j p e = (e, refl)
 disarmed (o ∷ os) (t ∷ ts) zero p e = disarmed_one o t p e
@@ -55,7 +58,8 @@ module _ (W : Script) where
   armeds_finished [] = refl
   armeds_finished (c ∷ cs) = grind (arith, armeds_finished cs)
 
-  pub counts_end : (cs : List (Cell W)) → Holding W cs → count (disarm (cell_armeds W cs) (ending (cursors W cs))) + count (ending (cursors W cs)) ≡ count (cell_armeds W cs)
+  pub counts_end : (cs : List (Cell W)) → Holding W cs →
+      count (disarm (cell_armeds W cs) (ending (cursors W cs))) + count (ending (cursors W cs)) ≡ count (cell_armeds W cs)
   counts_end [] h = omega arith
   counts_end (c ∷ cs) h = grind (arith, counts_end cs)
 
@@ -65,14 +69,17 @@ module _ (W : Script) where
   somebody_told (out m ∷ cs) h = somebody_told cs h
   somebody_told (live m p ∷ cs) h = go (least_one (rank (W.symbol p)) (least W cs) h) (somebody_told cs)
     where
-      go : (rank (W.symbol p) ≡ 1) ⊎ (least W cs ≡ 1) → (least W cs ≡ 1 → 1 ≤ count (ending (cursors W cs))) → 1 ≤ count (ending (cursors W (live m p ∷ cs)))
+      go : (rank (W.symbol p) ≡ 1) ⊎ (least W cs ≡ 1) → (least W cs ≡ 1 → 1 ≤ count (ending (cursors W cs))) →
+          1 ≤ count (ending (cursors W (live m p ∷ cs)))
       go h k = grind arith
 
   -- told are the contenders never marked
-  told_unmarked : (a : Option W.Task) (p : W.Cursor) (x : Symbol) → is_some a ≡ true → (1 ≤ rank x) × (rank x ≤ 3) → is_some (cond (eqb (rank x) 1) (Some (W.outcome p)) None) ≡ not (is_some a && early_lost false x)
+  told_unmarked : (a : Option W.Task) (p : W.Cursor) (x : Symbol) → is_some a ≡ true → (1 ≤ rank x) × (rank x ≤ 3) →
+      is_some (cond (eqb (rank x) 1) (Some (W.outcome p)) None) ≡ not (is_some a && early_lost false x)
   told_unmarked a p x h k = grind arith
 
-  pub tells_unmarked : (l : Tasks W) (cs : List (Cell W)) → Within W l cs → Every W (λ x. (1 ≤ rank x) × (rank x ≤ 3)) cs → (i : ℕ) (q : W.Task) → at l i ≡ Some q →
+  pub tells_unmarked : (l : Tasks W) (cs : List (Cell W)) → Within W l cs → Every W (λ x. (1 ≤ rank x) × (rank x ≤ 3)) cs →
+      (i : ℕ) (q : W.Task) → at l i ≡ Some q →
       is_some (at (ending (cursors W cs)) i) ≡ not (slice_index_or (marked W (early_lost false) l cs) i false)
   tells_unmarked [] cs h e i q a = cc
   tells_unmarked (o ∷ l) [] h e i q a = absurd h
@@ -83,7 +90,8 @@ module _ (W : Script) where
 module _ (W : Script) (D : Side) (left : W.Cursor → ℕ) where
   -- one by one
   outcomes_are : (q : Option W.Task) (s : D.S) (l : Tasks W) (cs : List (Cell W)) → Within W l cs →
-      ((i : ℕ) (p : W.Task) → at l i ≡ Some p → names W (at (cursors W cs) i) ≡ cond (wins W D left p q s) (Some (task_outcome W D left p s)) None) →
+      ((i : ℕ) (p : W.Task) → at l i ≡ Some p →
+      names W (at (cursors W cs) i) ≡ cond (wins W D left p q s) (Some (task_outcome W D left p s)) None) →
       ending W (cursors W cs) ≡ outcomes W D left l q s
   outcomes_are q s [] [] h each = refl
   outcomes_are q s [] (c ∷ cs) h each = absurd h
@@ -93,35 +101,49 @@ module _ (W : Script) (D : Side) (left : W.Cursor → ℕ) where
   outcomes_are q s (Some p ∷ l) (out m ∷ cs) h each = ap₂ ◌∷◌ (each 0 p refl) (outcomes_are q s l cs h (λ i p e. each (suc i) p e))
   outcomes_are q s (Some p ∷ l) (live m r ∷ cs) h each = ap₂ ◌∷◌ (each 0 p refl) (outcomes_are q s l cs h.1 (λ i p e. each (suc i) p e))
 
-  pub outcome_at : (q : Option W.Task) (s : D.S) (l : Tasks W) (i : ℕ) (p : W.Task) → at l i ≡ Some p → is_some (at (outcomes W D left l q s) i) ≡ wins W D left p q s
+  pub outcome_at : (q : Option W.Task) (s : D.S) (l : Tasks W) (i : ℕ) (p : W.Task) → at l i ≡ Some p →
+      is_some (at (outcomes W D left l q s) i) ≡ wins W D left p q s
   outcome_at q s [] i p e = cc
   outcome_at q s (None ∷ l) zero p e = cc
-  outcome_at q s (Some r ∷ l) zero p e = let z : r ≡ p = cc in told_is (wins W D left r q s) (task_outcome W D left r s) ∙ ap (λ x. wins W D left x q s) z
+  outcome_at q s (Some r ∷ l) zero p e = let z : r ≡ p = cc in told_is (wins W D left r q s) (task_outcome W D left r s)
+      ∙ ap (λ x. wins W D left x q s) z
   outcome_at q s (o ∷ l) (suc i) p e = grind (arith, outcome_at q s l)
 
 module _ (W : Script) (D : Side) (left : W.Cursor → ℕ) (Alike : W.Cursor → W.Cursor → Type 0) (laws : Laws W left Alike) where
-  pub told_at_stop : (l : Tasks W) (s0 : D.S) (k r : ℕ) (cs : List (Cell W)) (s : D.S) → Run W D left Alike (begins W l) s0 k r (cursors W cs) s → rank (lead W (cursors W cs)) ≡ 1 → Within W l cs →
+  pub told_at_stop : (l : Tasks W) (s0 : D.S) (k r : ℕ) (cs : List (Cell W)) (s : D.S) →
+      Run W D left Alike (begins W l) s0 k r (cursors W cs) s → rank (lead W (cursors W cs)) ≡ 1 → Within W l cs →
       ending W (cursors W cs) ≡ outcomes W D left l (leader W D left l s0) s0
-  told_at_stop l s0 k r cs s run stops h = outcomes_are W D left (leader W D left l s0) s0 l cs h (λ i q a. each i q a (at (cursors W cs) i) refl)
+  told_at_stop l s0 k r cs s run stops h =
+      outcomes_are W D left (leader W D left l s0) s0 l cs h (λ i q a. each i q a (at (cursors W cs) i) refl)
     where
-      each : (i : ℕ) (q : W.Task) → at l i ≡ Some q → (o : Option W.Cursor) → at (cursors W cs) i ≡ o → names W o ≡ cond (wins W D left q (leader W D left l s0) s0) (Some (task_outcome W D left q s0)) None
-      each i q a o b = go o b (stop_wins W D left Alike laws l s0 k r (cursors W cs) s run stops i q a ∙ ap (λ o. is_some (keep W (lead W (cursors W cs)) (heard D (lead W (cursors W cs)) s) o)) b)
+      each : (i : ℕ) (q : W.Task) → at l i ≡ Some q → (o : Option W.Cursor) → at (cursors W cs) i ≡ o →
+          names W o ≡ cond (wins W D left q (leader W D left l s0) s0) (Some (task_outcome W D left q s0)) None
+      each i q a o b = go o b (stop_wins W D left Alike laws l s0 k r (cursors W cs) s run stops i q a
+          ∙ ap (λ o. is_some (keep W (lead W (cursors W cs)) (heard D (lead W (cursors W cs)) s) o)) b)
         where
-          go : (o : Option W.Cursor) → at (cursors W cs) i ≡ o → wins W D left q (leader W D left l s0) s0 ≡ is_some (keep W (lead W (cursors W cs)) (heard D (lead W (cursors W cs)) s) o) →
+          go : (o : Option W.Cursor) → at (cursors W cs) i ≡ o →
+              wins W D left q (leader W D left l s0) s0 ≡ is_some (keep W (lead W (cursors W cs)) (heard D (lead W (cursors W cs)) s) o) →
               names W o ≡ cond (wins W D left q (leader W D left l s0) s0) (Some (task_outcome W D left q s0)) None
           go None b v = sym (ap (λ z. cond z (Some (task_outcome W D left q s0)) None) v)
           go (Some p) b v = two (eqb (rank (lead W (cursors W cs))) (rank (W.symbol p))) refl
             where
-              wins_if : (y : Bool) → eqb (rank (lead W (cursors W cs))) (rank (W.symbol p)) ≡ y → wins W D left q (leader W D left l s0) s0 ≡ y
-              wins_if y e = v ∙ ap (λ z. is_some (cond z (Some (W.next p (heard D (lead W (cursors W cs)) s))) None)) e ∙ told_is y (W.next p (heard D (lead W (cursors W cs)) s))
+              wins_if : (y : Bool) → eqb (rank (lead W (cursors W cs))) (rank (W.symbol p)) ≡ y →
+                  wins W D left q (leader W D left l s0) s0 ≡ y
+              wins_if y e = v ∙ ap (λ z. is_some (cond z (Some (W.next p (heard D (lead W (cursors W cs)) s))) None)) e
+                  ∙ told_is y (W.next p (heard D (lead W (cursors W cs)) s))
 
-              two : (y : Bool) → eqb (rank (lead W (cursors W cs))) (rank (W.symbol p)) ≡ y → names W (Some p) ≡ cond (wins W D left q (leader W D left l s0) s0) (Some (task_outcome W D left q s0)) None
+              two : (y : Bool) → eqb (rank (lead W (cursors W cs))) (rank (W.symbol p)) ≡ y →
+                  names W (Some p) ≡ cond (wins W D left q (leader W D left l s0) s0) (Some (task_outcome W D left q s0)) None
               two true e =
-                  let g : rank (W.symbol p) ≡ rank (lead W (cursors W cs)) = sym (eqb-true (rank (lead W (cursors W cs))) (rank (W.symbol p)) e) in
-                  let f = stop_names W D left Alike laws l s0 k r (cursors W cs) s run stops i q p a b (rank_inj (W.symbol p) (lead W (cursors W cs)) g) in
-                  ap (λ z. cond z (Some (W.outcome p)) None) (eq-eqb (rank (W.symbol p)) 1 (g ∙ stops)) ∙ ap (λ z. Some (W.outcome z)) (sym f)
+                  let g : rank (W.symbol p) ≡ rank (lead W (cursors W cs)) =
+                  sym (eqb-true (rank (lead W (cursors W cs))) (rank (W.symbol p)) e) in
+                  let f = stop_names W D left Alike laws l s0 k r (cursors W cs) s run stops i q p a b
+                  (rank_inj (W.symbol p) (lead W (cursors W cs)) g) in
+                  ap (λ z. cond z (Some (W.outcome p)) None) (eq-eqb (rank (W.symbol p)) 1 (g ∙ stops))
+                  ∙ ap (λ z. Some (W.outcome z)) (sym f)
                   ∙ sym (ap (λ z. cond z (Some (task_outcome W D left q s0)) None) (wins_if true e))
               two false e =
                   let g : eqb (rank (W.symbol p)) 1 ≡ false = ne_eqb (rank (W.symbol p)) 1 (λ z. let y : true ≡ false = sym
                   (eq-eqb (rank (lead W (cursors W cs))) (rank (W.symbol p)) (stops ∙ sym z)) ∙ e in cc) in
-                  ap (λ z. cond z (Some (W.outcome p)) None) g ∙ sym (ap (λ z. cond z (Some (task_outcome W D left q s0)) None) (wins_if false e))
+                  ap (λ z. cond z (Some (W.outcome p)) None) g
+                  ∙ sym (ap (λ z. cond z (Some (task_outcome W D left q s0)) None) (wins_if false e))
