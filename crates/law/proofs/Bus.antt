@@ -1,6 +1,7 @@
 -- The bus of hosts and devices is such a machine beside its turn book, so the law holds there.
 pub mod HoldsAsOne
 pub mod TickAsMachine
+pub mod TransfersAsGame
 pub mod HostsAsOne
 pub mod LeastStringLeads
 pub mod BookAsMachine

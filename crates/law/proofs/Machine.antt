@@ -2,6 +2,7 @@
 pub mod BusAsMachine
 pub mod PhasesOfSlot
 pub mod EventForAll
+pub mod Game
 pub mod Arbitration
 pub mod LeadingSymbol
 pub mod FateOfContender

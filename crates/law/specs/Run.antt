@@ -1,5 +1,5 @@
 -- A run: ticks until the bus is at rest or so many are made, and its load.
-use Rattle.std.specs.Prelude.{◌≡◌, ℕ, zero, suc, ◌+◌, ◌*◌, ◌/◌, Bool, true, false, if◌then◌else◌, List, is_some, Ok, Err, Option, Result, ◌==◌, nat_lt}
+use Rattle.std.specs.Prelude.{◌≡◌, ℕ, zero, suc, ◌+◌, ◌*◌, ◌/◌, false, if◌then◌else◌, List, is_some, Ok, Err, Option, Result, ◌==◌, nat_lt}
 use Rattle.std.specs.List.{count_by}
 use Rattle.device.specs.Device.{Behaviour}
 use Rattle.host.specs.Host.{HostBehaviour}

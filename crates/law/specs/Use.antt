@@ -1,5 +1,5 @@
 -- A bus in use: its calls, and beside it the turn book, the monitor and what the ports asked.
-use Rattle.std.specs.Prelude.{◌≡◌, ℕ, zero, suc, ◌+◌, Bool, false, if◌then◌else◌, List, [], ◌∷◌, ◌++◌, is_ok, Result, nat_lt}
+use Rattle.std.specs.Prelude.{ℕ, zero, suc, ◌+◌, Bool, false, if◌then◌else◌, List, [], ◌∷◌, ◌++◌, is_ok, Result, nat_lt}
 use Rattle.std.specs.List.{fold}
 use Rattle.device.specs.Device.{Behaviour, Step}
 use Rattle.host.specs.Host.{HostBehaviour}

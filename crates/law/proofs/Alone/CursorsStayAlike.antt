@@ -9,7 +9,7 @@ use Rattle.master.specs.declared.symbol.Symbol.TheVariants.{Listen, Stop}
 use Rattle.master.specs.Cursor.{Play, at_end, at_restart, in_leg, CursorModel, new_cursor}
 use Rattle.master.specs.Cursor.{is_write, master_sends, leg_size, symbol_in_leg, symbol_of}
 use Rattle.master.specs.Script.{transfers}
-use Rattle.law.proofs.Machine.Arbitration.{Laws}
+use Rattle.law.proofs.Machine.Game.{Laws}
 use Rattle.law.proofs.FarSide.{ends}
 use Rattle.law.specs.Legal.{IsLegalLeg, IsLegalSecond, IsLegal}
 use Rattle.law.proofs.Alone.CursorByParts.{leaves, goes_on, moves, next_is}

@@ -28,12 +28,10 @@ use Rattle.master.specs.Mark.{is_lost}
 use Rattle.law.specs.Use.{ticks, Use, lists_appended, event_at, marks_of, monitor_after, steps_then, use_after_tick, use_after, new_use, addressed_device}
 use Rattle.law.specs.Law.{Law}
 use Rattle.law.proofs.FarSide.{string, last}
-use Rattle.law.proofs.Alone.CursorsStayAlike.{Alike}
 use Rattle.law.proofs.Asked.ReportedHandedOver.{joined_alone, joined_as, reported_alone}
 use Rattle.law.proofs.Alone.IdleBetweenTurns.{Idle}
 use Rattle.law.proofs.Alone.PortsAsSide.{unheld, ports_side, idle_ports}
 use Rattle.law.proofs.Asked.RecordAfterA.{noted_by, played_reached}
-use Rattle.law.proofs.Alone.SlotsRunOut.{slots_left}
 use Rattle.law.proofs.Alone.PlayedIsCarried.{opened_ports}
 use Rattle.law.proofs.Asked.UnmarkedAsAlone.{ForNow, StillIn as LawStillIn, carried_so_far}
 use Rattle.law.proofs.Asked.NotingBusAlongside.{ports_stay, Alongside, same_event, same_marks, same_told, asked_many, asked_noted, one_more, first_noting, Beside, beside}
@@ -46,6 +44,7 @@ use Rattle.law.proofs.Asked.NothingAskedAtRest.{nothing_at_rest}
 use Rattle.law.proofs.Bus.TickAsMachine.{seen}
 use Rattle.law.proofs.Bus.UseKeepsInvariant.{StandsAt}
 use Rattle.law.proofs.Asked.ToldTookItsSteps.{tells_own, tells_at_stop, devices_won}
+use Rattle.law.proofs.Bus.TransfersAsGame.{game}
 
 -- who is not marked before a tick and not in it is not marked after it
 unmarked_after : (vs : List Bool) (ks : List Mark) (i : ℕ) → slice_index_or vs i false ≡ false → (slice_index_or ks i Quiet ≡ Lost → ⊥) → slice_index_or (marked_after vs ks) i false ≡ false
@@ -179,7 +178,7 @@ module _ (hs : List HostBehaviour) (ds : List Behaviour) where
 
         abbrev goes_on : ForNow transfers (ports_side es) (seen hs es then.bus) (idle_ports es then.book.devices) then.watch t
         goes_on = let b = booked hs es then.book in
-            carried_so_far transfers (ports_side es) slots_left Alike IsLegal (Idle es) (seen hs es then.bus) b.armed b.side b.turn then.watch st.0 st.1 (contenders hs then.book.entries) (ap (λ v. turn_if v (contenders hs then.book.entries)) turn_too)
+            carried_so_far (game es) IsLegal (Idle es) (seen hs es then.bus) b.armed b.side b.turn then.watch st.0 st.1 (contenders hs then.book.entries) (ap (λ v. turn_if v (contenders hs then.book.entries)) turn_too)
             i t (ap (λ b. slice_index_or (contenders hs b.entries) i None) same_book ∙ contends_too i t in_turn.0) (still_in i t in_turn)
 
         spelled : then.watch.spelled ≡ hears.so_far ++ (low ∷ [])

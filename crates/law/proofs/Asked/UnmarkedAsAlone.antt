@@ -17,63 +17,11 @@ use Rattle.law.proofs.Machine.SlotsOfTurn.{Run, spelled, alive_at}
 use Rattle.law.proofs.Machine.CellsOfTurn.{Within, marked, never}
 use Rattle.law.proofs.Machine.SlotsTellLeast.{over_later, begun_at}
 use Rattle.law.proofs.Machine.Invariant.{Stands, idle, claims, begun, low, rose, high}
+use Rattle.law.proofs.Machine.Game.{Game}
 
 one_longer : (ts : List Letter) (t : Letter) → length (ts ++ (t ∷ [])) ≡ suc (length ts)
 one_longer [] t = refl
 one_longer (u ∷ ts) t = ap suc (one_longer ts t)
-
-module _ (W : Script) (D : Side) where
-  spelled_long : (k : ℕ) (l : List (Option W.Cursor)) (s : D.S) → length (spelled W D l s k) ≡ k
-  spelled_long zero l s = refl
-  spelled_long (suc k) l s = one_longer (spelled W D l s k) (letter D (lead W (slots W D k (opened W D l s)).live) (slots W D k (opened W D l s)).side) ∙ ap suc (spelled_long k l s)
-
-  spelled_next : (k : ℕ) (l : List (Option W.Cursor)) (s : D.S) → ends (lead W l) ≡ false →
-      spelled W D l s (suc k) ≡ letter D (lead W l) s ∷ spelled W D (next_live W D l s) (next_side W D l s) k
-  spelled_next zero l s e = refl
-  spelled_next (suc k) l s e = ap₂ (λ x j. x ++ (letter D (lead W j.live) j.side ∷ [])) (spelled_next k l s e) (slots_next W D k l s e)
-
-  -- so far as alone
-  abbrev AsAlone : ℕ → List (Option W.Cursor) → D.S → W.Cursor → Type 0
-  AsAlone k l s p = (last W D k p s ≡ (slots W D k (opened W D l s)).side) × (string W D k p s ≡ spelled W D l s k)
-
-  one_more : (k : ℕ) (l : List (Option W.Cursor)) (s : D.S) (p : W.Cursor) → W.symbol p ≡ lead W l → ends (lead W l) ≡ false →
-      AsAlone k (next_live W D l s) (next_side W D l s) (W.next p (heard D (lead W l) s)) → AsAlone (suc k) l s p
-  one_more k l s p g d h = (
-    (let w : last W D (suc k) p s ≡ last W D k (W.next p (heard D (lead W l) s)) (after D (lead W l) s) = rw (g, d) in
-        w ∙ h.0 ∙ sym (ap (λ x. x.side) (slots_next W D k l s d))),
-    (let w : string W D (suc k) p s ≡ letter D (lead W l) s ∷ string W D k (W.next p (heard D (lead W l) s)) (after D (lead W l) s) = rw (g, d) in
-        w ∙ ap (λ x. letter D (lead W l) s ∷ x) h.1 ∙ sym (spelled_next k l s d)),
-  )
-
-  -- one that is live later too
-  as_alone : (k n : ℕ) (l : List (Option W.Cursor)) (s : D.S) (i : ℕ) (p r : W.Cursor) → k ≤ n → at l i ≡ Some p → (slots W D n (opened W D l s)).over ≡ false →
-      at (slots W D n (opened W D l s)).live i ≡ Some r → AsAlone k l s p
-  as_alone zero n l s i p r e a o b = (refl, refl)
-  as_alone (suc k) zero l s i p r e a o b = absurd (omega arith)
-  as_alone (suc k) (suc n) l s i p r e a o b = go (cases_Bool (ends (lead W l))) (λ p' a' o' b'. as_alone k n (next_live W D l s) (next_side W D l s) i p' r (omega arith) a' o' b')
-    where
-      go : (ends (lead W l) ≡ true) ⊎ (ends (lead W l) ≡ false) →
-          ((p' : W.Cursor) → at (next_live W D l s) i ≡ Some p' → (slots W D n (opened W D (next_live W D l s) (next_side W D l s))).over ≡ false →
-          at (slots W D n (opened W D (next_live W D l s) (next_side W D l s))).live i ≡ Some r → AsAlone k (next_live W D l s) (next_side W D l s) p') →
-          AsAlone (suc k) l s p
-      go (inl d) ih = let z = over_later W D n 0 (slot W D (opened W D l s)) (omega arith) d in cc
-      go (inr d) ih = two (eqb (rank (lead W l)) (rank (W.symbol p))) refl
-        where
-          nx : slots W D (suc n) (opened W D l s) ≡ slots W D n (opened W D (next_live W D l s) (next_side W D l s))
-          nx = slots_next W D n l s d
-
-          two : (v : Bool) → eqb (rank (lead W l)) (rank (W.symbol p)) ≡ v → AsAlone (suc k) l s p
-          two true f =
-              let g : W.symbol p ≡ lead W l = rank_inj (W.symbol p) (lead W l) (sym (eqb-true (rank (lead W l)) (rank (W.symbol p)) f)) in
-              let c : at (next_live W D l s) i ≡ Some (W.next p (heard D (lead W l) s)) = at_keep W (lead W l) (heard D (lead W l) s) l i ∙ ap (keep W (lead W l) (heard D (lead W l) s)) a
-              ∙ ap (λ v. cond v (Some (W.next p (heard D (lead W l) s))) None) f in
-              one_more k l s p g d (ih (W.next p (heard D (lead W l) s)) c (sym (ap (λ x. x.over) nx) ∙ o) (sym (ap (λ x. at x.live i) nx) ∙ b))
-          two false f =
-              let c : at (next_live W D l s) i ≡ None = at_keep W (lead W l) (heard D (lead W l) s) l i ∙ ap (keep W (lead W l) (heard D (lead W l) s)) a
-              ∙ ap (λ v. cond v (Some (W.next p (heard D (lead W l) s))) None) f in
-              let h = gone W D n (opened W D (next_live W D l s) (next_side W D l s)) i c in
-              let y : Some r ≡ None = sym b ∙ ap (λ x. at x.live i) nx ∙ h in
-              cc
 
 module _ (W : Script) where
   -- a contender that was never marked is live
@@ -132,33 +80,92 @@ module _ (W : Script) (D : Side) where
   abbrev pub ForNow : Bus W D → D.S → Monitor → W.Task → Type 0
   ForNow u s w q = (w.spelled ≡ []) ⊎ SoFar u s w q
 
-module _ (W : Script) (D : Side) (left : W.Cursor → ℕ) (Alike : W.Cursor → W.Cursor → Type 0) (Fits : W.Task → Type 0) (Rest : D.S → Type 0) where
-  -- k slots, where n are gone
-  so_far : (u : Bus W D) (s0 : D.S) (w : Monitor) (l : Tasks W) (i : ℕ) (x : W.Task) (k n r : ℕ) (ps : List (Option W.Cursor)) (s : D.S) (p : W.Cursor) → k ≤ n → Run W D left Alike (begins W l) (D.begin s0) n r ps s →
-      at l i ≡ Some x → at ps i ≡ Some p → w.spelled ≡ spelled W D (begins W l) (D.begin s0) k → u.side ≡ (slots W D k (opened W D (begins W l) (D.begin s0))).side → ForNow W D u s0 w x
-  so_far u s0 w l i x k n r ps s p e q here c b d =
-      let a = as_alone W D k n (begins W l) (D.begin s0) i (W.begin x) p e (begun_at W l i x here) (ap (λ z. z.over) q.runs) (ap (λ z. at z.live i) q.runs ∙ c) in
-      inr (record { slots_gone = k; letters = b ∙ sym a.1; many = ap length b ∙ spelled_long W D k (begins W l) (D.begin s0); side = d ∙ sym a.0 })
+module _ (G : Game) where
+  abbrev W : Script
+  W = G.script
 
-  pub carried_so_far : (u : Bus W D) (os : Tasks W) (s : D.S) (t : Option (Tasks W)) (w : Monitor) (n : ℕ) → Stands W D left Alike Fits Rest u os s t w n →
-      (l : Tasks W) → t ≡ Some l → (i : ℕ) (q : W.Task) → at l i ≡ Some q → StillIn W w.marked l i → ForNow W D u s w q
-  carried_so_far _ _ _ _ _ _ (idle u os s w cs e a t g q y) l f i x b c = cc
-  carried_so_far _ _ _ _ _ _ (claims u os s l v sp cs e m g q y) l' f i x b c = inl (ap (λ z. z.letters) m.1)
-  carried_so_far _ _ _ _ _ _ (begun u os s l v sp cs k n e b' c' m g q y) l' f i x b c = inl (ap (λ z. z.letters) m.1)
-  carried_so_far _ _ _ _ _ _ (low u os s0 l v sp cs k r s d h' f' n e b1 b2 c' m g q y) l' f i x b c =
-      let z : l' ≡ l = cc in
-      let here : at l i ≡ Some x = ap (λ m. at m i) (sym z) ∙ b in
-      let p = either_at W never v l cs i x m.0 g.within g.living here (subst (λ j. StillIn W v j i) z c) in
-      so_far u s0 (watch (suc k) false v sp) l i x k k r (cursors W cs) s p.0 (omega arith) q here p.1 (ap (λ z. z.letters) m.1) (ap (λ z. z.side) e ∙ sym (ap (λ z. z.side) q.runs))
-  carried_so_far _ _ _ _ _ _ (rose u os s0 l v sp cs k r s o n e j b' m g q y) l' f i x b c =
-      let z : l' ≡ l = cc in
-      let here : at l i ≡ Some x = ap (λ m. at m i) (sym z) ∙ b in
-      let p = either_at W (early_lost o) v l cs i x m.0 g.within g.living here (subst (λ j. StillIn W v j i) z c) in
-      so_far u s0 (watch (suc k) true v sp) l i x k k r (cursors W cs) s p.0 (omega arith) q here p.1 (ap (λ z. z.letters) m.1) (ap (λ z. z.side) e ∙ sym (ap (λ z. z.side) q.runs))
-  carried_so_far _ _ _ _ _ _ (high u os s0 l v sp cs k r s d o f' n e j b1 b2 m g q y) l' f i x b c =
-      let z : l' ≡ l = cc in
-      let here : at l i ≡ Some x = ap (λ m. at m i) (sym z) ∙ b in
-      let p = either_at W never v l cs i x m.0 g.within g.living here (subst (λ j. StillIn W v j i) z c) in
-      let h = m.2 in
-      so_far u s0 (watch (suc k) true v sp) l i x h.slots_gone (suc k) r (cursors W (advance W (unwrap_or o true) cs)) (taken D o s) (W.next p.0 (unwrap_or o true)) h.most q here
-      (goes_on_at W (unwrap_or o true) cs i p.0 p.1) h.letters (ap (λ z. z.side) e ∙ sym h.side)
+  abbrev D : Side
+  D = G.side
+
+  spelled_long : (k : ℕ) (l : List (Option W.Cursor)) (s : D.S) → length (spelled G l s k) ≡ k
+  spelled_long zero l s = refl
+  spelled_long (suc k) l s = one_longer (spelled G l s k) (letter D (lead W (slots G k (opened G l s)).live) (slots G k (opened G l s)).side) ∙ ap suc (spelled_long k l s)
+
+  spelled_next : (k : ℕ) (l : List (Option W.Cursor)) (s : D.S) → ends (lead W l) ≡ false →
+      spelled G l s (suc k) ≡ letter D (lead W l) s ∷ spelled G (next_live G l s) (next_side G l s) k
+  spelled_next zero l s e = refl
+  spelled_next (suc k) l s e = ap₂ (λ x j. x ++ (letter D (lead W j.live) j.side ∷ [])) (spelled_next k l s e) (slots_next G k l s e)
+
+  -- so far as alone
+  abbrev AsAlone : ℕ → List (Option W.Cursor) → D.S → W.Cursor → Type 0
+  AsAlone k l s p = (last W D k p s ≡ (slots G k (opened G l s)).side) × (string W D k p s ≡ spelled G l s k)
+
+  one_more : (k : ℕ) (l : List (Option W.Cursor)) (s : D.S) (p : W.Cursor) → W.symbol p ≡ lead W l → ends (lead W l) ≡ false →
+      AsAlone k (next_live G l s) (next_side G l s) (W.next p (heard D (lead W l) s)) → AsAlone (suc k) l s p
+  one_more k l s p g d h = (
+    (let w : last W D (suc k) p s ≡ last W D k (W.next p (heard D (lead W l) s)) (after D (lead W l) s) = rw (g, d) in
+        w ∙ h.0 ∙ sym (ap (λ x. x.side) (slots_next G k l s d))),
+    (let w : string W D (suc k) p s ≡ letter D (lead W l) s ∷ string W D k (W.next p (heard D (lead W l) s)) (after D (lead W l) s) = rw (g, d) in
+        w ∙ ap (λ x. letter D (lead W l) s ∷ x) h.1 ∙ sym (spelled_next k l s d)),
+  )
+
+  -- one that is live later too
+  as_alone : (k n : ℕ) (l : List (Option W.Cursor)) (s : D.S) (i : ℕ) (p r : W.Cursor) → k ≤ n → at l i ≡ Some p → (slots G n (opened G l s)).over ≡ false →
+      at (slots G n (opened G l s)).live i ≡ Some r → AsAlone k l s p
+  as_alone zero n l s i p r e a o b = (refl, refl)
+  as_alone (suc k) zero l s i p r e a o b = absurd (omega arith)
+  as_alone (suc k) (suc n) l s i p r e a o b = go (cases_Bool (ends (lead W l))) (λ p' a' o' b'. as_alone k n (next_live G l s) (next_side G l s) i p' r (omega arith) a' o' b')
+    where
+      go : (ends (lead W l) ≡ true) ⊎ (ends (lead W l) ≡ false) →
+          ((p' : W.Cursor) → at (next_live G l s) i ≡ Some p' → (slots G n (opened G (next_live G l s) (next_side G l s))).over ≡ false →
+          at (slots G n (opened G (next_live G l s) (next_side G l s))).live i ≡ Some r → AsAlone k (next_live G l s) (next_side G l s) p') →
+          AsAlone (suc k) l s p
+      go (inl d) ih = let z = over_later G n 0 (slot G (opened G l s)) (omega arith) d in cc
+      go (inr d) ih = two (eqb (rank (lead W l)) (rank (W.symbol p))) refl
+        where
+          nx : slots G (suc n) (opened G l s) ≡ slots G n (opened G (next_live G l s) (next_side G l s))
+          nx = slots_next G n l s d
+
+          two : (v : Bool) → eqb (rank (lead W l)) (rank (W.symbol p)) ≡ v → AsAlone (suc k) l s p
+          two true f =
+              let g : W.symbol p ≡ lead W l = rank_inj (W.symbol p) (lead W l) (sym (eqb-true (rank (lead W l)) (rank (W.symbol p)) f)) in
+              let c : at (next_live G l s) i ≡ Some (W.next p (heard D (lead W l) s)) = at_keep W (lead W l) (heard D (lead W l) s) l i ∙ ap (keep W (lead W l) (heard D (lead W l) s)) a
+              ∙ ap (λ v. cond v (Some (W.next p (heard D (lead W l) s))) None) f in
+              one_more k l s p g d (ih (W.next p (heard D (lead W l) s)) c (sym (ap (λ x. x.over) nx) ∙ o) (sym (ap (λ x. at x.live i) nx) ∙ b))
+          two false f =
+              let c : at (next_live G l s) i ≡ None = at_keep W (lead W l) (heard D (lead W l) s) l i ∙ ap (keep W (lead W l) (heard D (lead W l) s)) a
+              ∙ ap (λ v. cond v (Some (W.next p (heard D (lead W l) s))) None) f in
+              let h = gone G n (opened G (next_live G l s) (next_side G l s)) i c in
+              let y : Some r ≡ None = sym b ∙ ap (λ x. at x.live i) nx ∙ h in
+              cc
+
+  module _ (Fits : W.Task → Type 0) (Rest : D.S → Type 0) where
+    -- k slots, where n are gone
+    so_far : (u : Bus W D) (s0 : D.S) (w : Monitor) (l : Tasks W) (i : ℕ) (x : W.Task) (k n r : ℕ) (ps : List (Option W.Cursor)) (s : D.S) (p : W.Cursor) → k ≤ n → Run G (begins W l) (D.begin s0) n r ps s →
+        at l i ≡ Some x → at ps i ≡ Some p → w.spelled ≡ spelled G (begins W l) (D.begin s0) k → u.side ≡ (slots G k (opened G (begins W l) (D.begin s0))).side → ForNow W D u s0 w x
+    so_far u s0 w l i x k n r ps s p e q here c b d =
+        let a = as_alone k n (begins W l) (D.begin s0) i (W.begin x) p e (begun_at W l i x here) (ap (λ z. z.over) q.runs) (ap (λ z. at z.live i) q.runs ∙ c) in
+        inr (record { slots_gone = k; letters = b ∙ sym a.1; many = ap length b ∙ spelled_long k (begins W l) (D.begin s0); side = d ∙ sym a.0 })
+
+    pub carried_so_far : (u : Bus W D) (os : Tasks W) (s : D.S) (t : Option (Tasks W)) (w : Monitor) (n : ℕ) → Stands G Fits Rest u os s t w n →
+        (l : Tasks W) → t ≡ Some l → (i : ℕ) (q : W.Task) → at l i ≡ Some q → StillIn W w.marked l i → ForNow W D u s w q
+    carried_so_far _ _ _ _ _ _ (idle u os s w cs e a t g q y) l f i x b c = cc
+    carried_so_far _ _ _ _ _ _ (claims u os s l v sp cs e m g q y) l' f i x b c = inl (ap (λ z. z.letters) m.1)
+    carried_so_far _ _ _ _ _ _ (begun u os s l v sp cs k n e b' c' m g q y) l' f i x b c = inl (ap (λ z. z.letters) m.1)
+    carried_so_far _ _ _ _ _ _ (low u os s0 l v sp cs k r s d h' f' n e b1 b2 c' m g q y) l' f i x b c =
+        let z : l' ≡ l = cc in
+        let here : at l i ≡ Some x = ap (λ m. at m i) (sym z) ∙ b in
+        let p = either_at W never v l cs i x m.0 g.within g.living here (subst (λ j. StillIn W v j i) z c) in
+        so_far u s0 (watch (suc k) false v sp) l i x k k r (cursors W cs) s p.0 (omega arith) q here p.1 (ap (λ z. z.letters) m.1) (ap (λ z. z.side) e ∙ sym (ap (λ z. z.side) q.runs))
+    carried_so_far _ _ _ _ _ _ (rose u os s0 l v sp cs k r s o n e j b' m g q y) l' f i x b c =
+        let z : l' ≡ l = cc in
+        let here : at l i ≡ Some x = ap (λ m. at m i) (sym z) ∙ b in
+        let p = either_at W (early_lost o) v l cs i x m.0 g.within g.living here (subst (λ j. StillIn W v j i) z c) in
+        so_far u s0 (watch (suc k) true v sp) l i x k k r (cursors W cs) s p.0 (omega arith) q here p.1 (ap (λ z. z.letters) m.1) (ap (λ z. z.side) e ∙ sym (ap (λ z. z.side) q.runs))
+    carried_so_far _ _ _ _ _ _ (high u os s0 l v sp cs k r s d o f' n e j b1 b2 m g q y) l' f i x b c =
+        let z : l' ≡ l = cc in
+        let here : at l i ≡ Some x = ap (λ m. at m i) (sym z) ∙ b in
+        let p = either_at W never v l cs i x m.0 g.within g.living here (subst (λ j. StillIn W v j i) z c) in
+        let h = m.2 in
+        so_far u s0 (watch (suc k) true v sp) l i x h.slots_gone (suc k) r (cursors W (advance W (unwrap_or o true) cs)) (taken D o s) (W.next p.0 (unwrap_or o true)) h.most q here
+        (goes_on_at W (unwrap_or o true) cs i p.0 p.1) h.letters (ap (λ z. z.side) e ∙ sym h.side)

@@ -21,11 +21,11 @@ use Rattle.port.specs.Port.{PortModel}
 use Rattle.master.specs.Script.{transfers}
 use Rattle.law.proofs.Alone.PortsAsSide.{ports_side, idle_ports}
 use Rattle.law.proofs.Alone.SealedIsLegal.{legal_transfer}
-use Rattle.law.proofs.Alone.SlotsRunOut.{slots_left}
 use Rattle.law.proofs.Machine.BookOfMachine.{any, answer, answer_if, armed_if, arm_book, nobody, disarm, disarm_one, Book as MachineBook}
 use Rattle.law.proofs.Machine.BookOfMachine.{book, feed, stop_tells, book_tells as machine_tells}
 use Rattle.law.proofs.Bus.LeastStringLeads.{LegalIf, AllLegal, carry_all, lead, told_are, devices_are}
 use Rattle.law.proofs.Bus.HostsAsOne.{Meanings, wants_of, hears_all}
+use Rattle.law.proofs.Bus.TransfersAsGame.{game}
 
 abbrev pub meaning_of : (h : HostBehaviour) → Entry h → h.Meaning
 meaning_of h x = x.meaning
@@ -182,7 +182,7 @@ module _ (hs : List HostBehaviour) (ds : List Behaviour) where
   booked b = machine_book (tasks hs b.entries) (idle_ports ds b.devices) (turn_if b.turn (contenders hs b.entries))
 
   abbrev fed : MachineBook transfers (ports_side ds) → Event → MachineBook transfers (ports_side ds)
-  fed b e = feed transfers (ports_side ds) slots_left b e
+  fed b e = feed (game ds) b e
 
   -- who is armed wants something, and an open turn has a contender
   pub record Sound (b : Book hs ds) : Type 0 where
@@ -223,7 +223,7 @@ module _ (hs : List HostBehaviour) (ds : List Behaviour) where
   -- whom an open turn tells at its stop
   stop_told : (es : Bank Entry hs) (d : Bank AddressedDevice ds) →
       told_at_stop hs ds (of_parts es d opened) opened ≡
-      stop_tells transfers (ports_side ds) slots_left (tasks hs es) (idle_ports ds d) (Some (contenders hs es))
+      stop_tells (game ds) (tasks hs es) (idle_ports ds d) (Some (contenders hs es))
   stop_told es d =
       ap (λ cs. outcomes_of_turn ds (least_result ds cs) cs) (contests_of (of_parts es d opened))
       ∙ told_are ds d (contenders hs es) (contenders_legal hs es)
@@ -233,7 +233,7 @@ module _ (hs : List HostBehaviour) (ds : List Behaviour) where
   closes_booked es d closed h = refl
   closes_booked es d opened h =
       let ts = told_at_stop hs ds (of_parts es d opened) opened in
-      let us = stop_tells transfers (ports_side ds) slots_left (tasks hs es) (idle_ports ds d) (Some (contenders hs es)) in
+      let us = stop_tells (game ds) (tasks hs es) (idle_ports ds d) (Some (contenders hs es)) in
       let told = stop_told es d in
       let armed : tasks hs (entries_after_turn hs es ts) ≡ disarm (tasks hs es) us =
       leave_tasks hs es ts ∙ ap (disarm (tasks hs es)) told in
@@ -252,11 +252,11 @@ module _ (hs : List HostBehaviour) (ds : List Behaviour) where
 
   stop_tells_booked : (es : Bank Entry hs) (d : Bank AddressedDevice ds) (v : Turn) →
       told_at_stop hs ds (of_parts es d v) v ≡
-      stop_tells transfers (ports_side ds) slots_left (tasks hs es) (idle_ports ds d) (turn_if v (contenders hs es))
+      stop_tells (game ds) (tasks hs es) (idle_ports ds d) (turn_if v (contenders hs es))
   stop_tells_booked es d opened = stop_told es d
   stop_tells_booked es d closed = nobody_is hs es
 
-  pub tells_booked : (b : Book hs ds) (e : Event) → book_told hs ds b e ≡ machine_tells transfers (ports_side ds) slots_left (booked b) e
+  pub tells_booked : (b : Book hs ds) (e : Event) → book_told hs ds b e ≡ machine_tells (game ds) (booked b) e
   tells_booked b Stop = stop_tells_booked b.entries b.devices b.turn
   tells_booked b SteadyHigh = nobody_is hs b.entries
   tells_booked b (Rise x) = nobody_is hs b.entries

@@ -8,14 +8,14 @@ use Rattle.device.specs.Device.{Behaviour}
 use Rattle.host.specs.Host.{HostBehaviour}
 use Rattle.law.specs.Bank.{Bank, bank_list}
 use Rattle.master.specs.Script.{transfers}
-use Rattle.law.proofs.Alone.CursorsStayAlike.{Alike, open_alike}
+use Rattle.law.proofs.Alone.CursorsStayAlike.{open_alike}
 use Rattle.law.proofs.Alone.IdleBetweenTurns.{Idle, idle_pulls_nothing, quiet_from_idle, idle_at_last}
 use Rattle.law.specs.Legal.{IsLegal}
-use Rattle.law.proofs.Alone.PortsAsSide.{ports_side}
 use Rattle.law.proofs.Alone.SealedIsLegal.{legal_transfer}
 use Rattle.law.proofs.Alone.SlotsRunOut.{slots_left, at_most}
 use Rattle.law.proofs.Machine.Arbitration.{at}
 use Rattle.law.proofs.Machine.BookOfMachine.{Plays}
+use Rattle.law.proofs.Bus.TransfersAsGame.{game}
 
 abbrev pub Meanings : List HostBehaviour → Type 0
 Meanings hs = Bank (λ h. h.Meaning) hs
@@ -45,7 +45,7 @@ legal_wants [] m i t e = cc
 legal_wants (h ∷ hs) m zero t e = legal_want (h.want m.0) t e
 legal_wants (h ∷ hs) m (suc i) t e = legal_wants hs m.1 i t e
 
-pub plays : (ds : List Behaviour) → Plays transfers (ports_side ds) slots_left Alike IsLegal (Idle ds)
+pub plays : (ds : List Behaviour) → Plays (game ds) IsLegal (Idle ds)
 plays ds = record {
   alike = open_alike;
   short = at_most;

@@ -1,6 +1,6 @@
 -- Who leads by the letters of carried alone is who leads slot by slot; and who is carried is a contender.
 use Rattle.std.proofs.Common.{◌≡◌, ℕ, zero, suc, Bool, cond, List, [], ◌∷◌, map, Some, None, Option, sym, refl, ap, ◌∙◌, subst, ap₂}
-use Rattle.std.proofs.Common.{le_refl, arith}
+use Rattle.std.proofs.Common.{arith}
 use Rattle.std.specs.Prelude.{slice_index_or}
 use Rattle.std.specs.Option.{option_map}
 use Rattle.transfer.specs.Transfer.{TransferModel}
@@ -9,14 +9,13 @@ use Rattle.law.specs.Bank.{Bank}
 use Rattle.law.specs.Book.{first_of_two, least_result, outcome_if_least, outcomes_of_turn, devices_after}
 use Rattle.law.specs.TransferResult.{AddressedDevice, TransferResult, transfer_result}
 use Rattle.port.specs.Port.{PortModel}
-use Rattle.master.specs.Script.{transfers}
 use Rattle.law.specs.Letter.{Letter, same_string, first_or_same}
 use Rattle.law.proofs.Alone.PlayedIsCarried.{opened_ports, agrees}
 use Rattle.law.specs.Legal.{IsLegal}
-use Rattle.law.proofs.Alone.PortsAsSide.{ports_side, idle_ports}
-use Rattle.law.proofs.Alone.SlotsRunOut.{slots_left}
+use Rattle.law.proofs.Alone.PortsAsSide.{idle_ports}
 use Rattle.law.proofs.Machine.Arbitration.{at}
 use Rattle.law.proofs.Machine.BookOfMachine.{task_string, task_outcome, task_side, pick, leader, wins, outcomes, leader_side}
+use Rattle.law.proofs.Bus.TransfersAsGame.{game}
 
 abbrev pub LegalIf : Option TransferModel → Type 0
 LegalIf None = Unit {0}
@@ -37,7 +36,7 @@ module _ (ds : List Behaviour) (d : Bank AddressedDevice ds) where
   carry_all l = map (option_map carry) l
 
   abbrev pub text : TransferModel → List Letter
-  text t = task_string transfers (ports_side ds) slots_left t side
+  text t = task_string (game ds) t side
 
   pub text_is : (t : TransferModel) → IsLegal t → text t ≡ (carry t).letters
   text_is t k = (agrees ds t d k).same_letters
@@ -51,7 +50,7 @@ module _ (ds : List Behaviour) (d : Bank AddressedDevice ds) where
   same_is t u k l = ap₂ same_string (text_is t k) (text_is u l)
 
   abbrev pub lead : List (Option TransferModel) → Option TransferModel
-  lead l = leader transfers (ports_side ds) slots_left l side
+  lead l = leader (game ds) l side
 
   pub lead_legal : (l : List (Option TransferModel)) → AllLegal l → LegalIf (lead l)
   lead_legal [] k = tt
@@ -61,7 +60,7 @@ module _ (ds : List Behaviour) (d : Bank AddressedDevice ds) where
   carry_cond b t u = grind arith
 
   pick_is : (t : TransferModel) (o : Option TransferModel) → IsLegal t → LegalIf o →
-      carry (pick transfers (ports_side ds) slots_left t o side) ≡ first_of_two ds (carry t) (option_map carry o)
+      carry (pick (game ds) t o side) ≡ first_of_two ds (carry t) (option_map carry o)
   pick_is t None k l = refl
   pick_is t (Some u) k l = carry_cond (first_or_same (text t) (text u)) t u ∙ ap (λ v. cond v (carry t) (carry u)) (lexb_is t u k l)
 
@@ -72,12 +71,12 @@ module _ (ds : List Behaviour) (d : Bank AddressedDevice ds) where
       ∙ ap (λ c. Some c) (sym (pick_is t (lead l) k.0 (lead_legal l k.1)))
 
   told_one : (t u : TransferModel) → IsLegal t → IsLegal u →
-      cond (wins transfers (ports_side ds) slots_left t (Some u) side)
-      (Some (task_outcome transfers (ports_side ds) slots_left t side)) None ≡ outcome_if_least ds (carry u) (Some (carry t))
+      cond (wins (game ds) t (Some u) side)
+      (Some (task_outcome (game ds) t side)) None ≡ outcome_if_least ds (carry u) (Some (carry t))
   told_one t u k l = ap₂ (λ v o. cond v (Some o) None) (same_is t u k l) (agrees ds t d k).same_outcome
 
   pub outcomes_are : (l : List (Option TransferModel)) (q : Option TransferModel) → AllLegal l → LegalIf q →
-      outcomes transfers (ports_side ds) slots_left l q side ≡ outcomes_of_turn ds (option_map carry q) (carry_all l)
+      outcomes (game ds) l q side ≡ outcomes_of_turn ds (option_map carry q) (carry_all l)
   outcomes_are [] None k g = refl
   outcomes_are [] (Some u) k g = refl
   outcomes_are (None ∷ l) None k g = ap (λ r. None ∷ r) (outcomes_are l None k.1 g)
@@ -87,18 +86,18 @@ module _ (ds : List Behaviour) (d : Bank AddressedDevice ds) where
 
   -- whom a stop tells
   pub told_are : (l : List (Option TransferModel)) → AllLegal l →
-      outcomes_of_turn ds (least_result ds (carry_all l)) (carry_all l) ≡ outcomes transfers (ports_side ds) slots_left l (lead l) side
+      outcomes_of_turn ds (least_result ds (carry_all l)) (carry_all l) ≡ outcomes (game ds) l (lead l) side
   told_are l k = ap (λ q. outcomes_of_turn ds q (carry_all l)) (least_is l k) ∙ sym (outcomes_are l (lead l) k (lead_legal l k))
 
   -- the devices after it; without a contender nothing is carried
-  after_one : (q : TransferModel) → IsLegal q → idle_ports ds (carry q).devices ≡ task_side transfers (ports_side ds) slots_left q side
+  after_one : (q : TransferModel) → IsLegal q → idle_ports ds (carry q).devices ≡ task_side (game ds) q side
   after_one q k = sym (agrees ds q d k).same_devices
 
   pub devices_are : (l : List (Option TransferModel)) (q : TransferModel) → AllLegal l → lead l ≡ Some q →
-      idle_ports ds (devices_after ds (least_result ds (carry_all l)) d) ≡ leader_side transfers (ports_side ds) slots_left (lead l) side
+      idle_ports ds (devices_after ds (least_result ds (carry_all l)) d) ≡ leader_side (game ds) (lead l) side
   devices_are l q k e =
       ap (λ c. idle_ports ds (devices_after ds c d)) (least_is l k ∙ ap (option_map carry) e)
-      ∙ (after_one q (legal e) ∙ ap (λ o. leader_side transfers (ports_side ds) slots_left o side) (sym e)) where
+      ∙ (after_one q (legal e) ∙ ap (λ o. leader_side (game ds) o side) (sym e)) where
         legal : lead l ≡ Some q → IsLegal q
         legal e = subst LegalIf e (lead_legal l k)
 

@@ -21,10 +21,8 @@ use Rattle.law.specs.Legal.{IsLegal}
 use Rattle.law.specs.Limits.{ticks_of_turn}
 use Rattle.law.specs.Monitor.{Monitor, monitor_after_marks}
 use Rattle.law.specs.Use.{Call, arms, Use, event_at, marks_of, monitor_after, use_after_tick, use_after_call, use_after, ticks_of}
-use Rattle.law.proofs.Alone.CursorsStayAlike.{Alike, cursor_laws}
 use Rattle.law.proofs.Alone.IdleBetweenTurns.{Idle}
 use Rattle.law.proofs.Alone.PortsAsSide.{unheld, ports_side, idle_ports}
-use Rattle.law.proofs.Alone.SlotsRunOut.{slots_left}
 use Rattle.law.proofs.Machine.BusAsMachine.{Bus, verdicts, tick, tick_event, tick_verdicts}
 use Rattle.law.proofs.Machine.BookOfMachine.{count, any, answer, answer_if, armed_if, arm_book, task_of, armeds, pulling, arm_masters}
 use Rattle.law.proofs.Machine.BookOfMachine.{arm_bus, tellings, tick_tells, turned, noted, Book as MachineBook, feed, book_tells}
@@ -37,6 +35,7 @@ use Rattle.law.proofs.Bus.CallsKeep.{calls_keep}
 use Rattle.law.proofs.Bus.HostsAsOne.{Meanings, want_of, wants_of, legal_wants, hears_all, plays}
 use Rattle.law.proofs.Bus.TickAsMachine.{masters_of, seen, LetGo, levels_seen, answer_at, answer_small, tick_seen, still_let_go}
 use Rattle.law.proofs.Bus.MonitorAsMachine.{watched_as, marked_as, told_as, how_many_is}
+use Rattle.law.proofs.Bus.TransfersAsGame.{game}
 
 abbrev pub meaning_served : (h : HostBehaviour) → HostedMaster h → h.Meaning
 meaning_served h x = x.meaning
@@ -103,7 +102,7 @@ module _ (hs : List HostBehaviour) (ds : List Behaviour) where
 
   -- the machine of a bus beside the book of its use
   abbrev StandsThere : Bus transfers (ports_side ds) → MachineBook transfers (ports_side ds) → Monitor → ℕ → Type 0
-  StandsThere u b w n = Stands transfers (ports_side ds) slots_left Alike IsLegal (Idle ds) u b.armed b.side b.turn w n
+  StandsThere u b w n = Stands (game ds) IsLegal (Idle ds) u b.armed b.side b.turn w n
 
   abbrev pub StandsIn : Use hs ds → ℕ → Type 0
   StandsIn x n = StandsThere (seen hs ds x.bus) (booked hs ds x.book) x.watch n
@@ -127,17 +126,17 @@ module _ (hs : List HostBehaviour) (ds : List Behaviour) where
     e = tick_event transfers (ports_side ds) u
 
     pub armed_as : armeds transfers (masters_of hs x.bus.masters) ≡ tasks hs x.book.entries
-    armed_as = stands_armed transfers (ports_side ds) slots_left Alike IsLegal (Idle ds) u b.armed b.side b.turn x.watch n k.stands
+    armed_as = stands_armed (game ds) IsLegal (Idle ds) u b.armed b.side b.turn x.watch n k.stands
 
     pub side_as : x.bus.wire.busy ≡ false → bank_map unheld ds x.bus.ports ≡ idle_ports ds x.book.devices
-    side_as = stands_side transfers (ports_side ds) slots_left Alike IsLegal (Idle ds) u b.armed b.side b.turn x.watch n k.stands
+    side_as = stands_side (game ds) IsLegal (Idle ds) u b.armed b.side b.turn x.watch n k.stands
 
     pub marked_pull_none : is_some b.turn ≡ true → (i : ℕ) → slice_index_or x.watch.marked i false ≡ true →
         pulling transfers (masters_of hs x.bus.masters) i ≡ false
-    marked_pull_none = stands_out transfers (ports_side ds) slots_left Alike IsLegal (Idle ds) u b.armed b.side b.turn x.watch n k.stands
+    marked_pull_none = stands_out (game ds) IsLegal (Idle ds) u b.armed b.side b.turn x.watch n k.stands
 
     pub few_left : n ≤ ticks_of_turn
-    few_left = stands_left transfers (ports_side ds) slots_left Alike IsLegal (Idle ds) u b.armed b.side b.turn x.watch n k.stands
+    few_left = stands_left (game ds) IsLegal (Idle ds) u b.armed b.side b.turn x.watch n k.stands
 
     pub answers_as : (i : ℕ) → (arm_at hs ds x.bus i).0 ≡ (book_arm hs ds x.book i).0
     answers_as i = arm_answer_is hs x.bus.masters i
@@ -161,7 +160,7 @@ module _ (hs : List HostBehaviour) (ds : List Behaviour) where
           sound = armed_sound hs ds x.book i k.sound;
           stands = subst (λ z. StandsThere z (booked hs ds (book_arm hs ds x.book i).1) x.watch n) (sym (arm_seen i))
               (subst (λ z. StandsThere (arm_bus transfers (ports_side ds) u (wants_of hs m) i) z x.watch n) (sym (arm_booked i))
-              (arm_stands transfers (ports_side ds) slots_left Alike IsLegal (Idle ds) (wants_of hs m) (legal_wants hs m) i
+              (arm_stands (game ds) IsLegal (Idle ds) (wants_of hs m) (legal_wants hs m) i
               u b.armed b.side b.turn x.watch n k.stands));
           hosts = arm_hosts hs x.bus.masters i ∙ (k.hosts ∙ sym (arm_meanings hs es i));
           counts =
@@ -173,16 +172,16 @@ module _ (hs : List HostBehaviour) (ds : List Behaviour) where
 
     -- what the next tick does
     abbrev pub Next : ℕ → Type 0
-    Next h = Fine transfers (ports_side ds) slots_left Alike IsLegal (Idle ds) cursor_laws (plays ds) b.armed b.side b.turn x.watch n
+    Next h = Fine (game ds) IsLegal (Idle ds) (plays ds) b.armed b.side b.turn x.watch n
         (tick transfers (ports_side ds) u h) e (tick_verdicts transfers (ports_side ds) u)
 
     pub next : (h : ℕ) → h ≤ most_count → Next h
-    next h l = tick_stands transfers (ports_side ds) slots_left Alike IsLegal (Idle ds) cursor_laws (plays ds)
+    next h l = tick_stands (game ds) IsLegal (Idle ds) (plays ds)
         u b.armed b.side b.turn x.watch n h l k.stands
 
     pub tells_as : told_at hs ds x.bus ≡ book_told hs ds x.book (event_at hs ds x.bus)
     tells_as = told_seen x.bus ∙ ((next 0 (omega arith)).tells
-        ∙ (ap (book_tells transfers (ports_side ds) slots_left b) (sym (event_seen x.bus))
+        ∙ (ap (book_tells (game ds) b) (sym (event_seen x.bus))
         ∙ sym (tells_booked hs ds x.book (event_at hs ds x.bus))))
 
     abbrev pub later : Monitor
@@ -210,10 +209,10 @@ module _ (hs : List HostBehaviour) (ds : List Behaviour) where
       abbrev then : Use hs ds
       then = use_after_tick hs ds x a
 
-      fed_as : booked hs ds then.book ≡ feed transfers (ports_side ds) slots_left b e
-      fed_as = fed_booked hs ds x.book (event_at hs ds x.bus) k.sound ∙ ap (feed transfers (ports_side ds) slots_left b) (event_seen x.bus)
+      fed_as : booked hs ds then.book ≡ feed (game ds) b e
+      fed_as = fed_booked hs ds x.book (event_at hs ds x.bus) k.sound ∙ ap (feed (game ds) b) (event_seen x.bus)
 
-      told_many : then.told ≡ x.told + count (book_tells transfers (ports_side ds) slots_left b e)
+      told_many : then.told ≡ x.told + count (book_tells (game ds) b e)
       told_many = ap (λ m. x.told + m) (how_many_is (told_at hs ds x.bus) ∙ ap count (told_seen x.bus ∙ f.tells))
 
       ticked_keeps : Kept then f.due
@@ -222,7 +221,7 @@ module _ (hs : List HostBehaviour) (ds : List Behaviour) where
         sound = fed_sound hs ds x.book (event_at hs ds x.bus) k.sound;
         stands = subst (λ z. StandsThere z (booked hs ds then.book) then.watch f.due) (sym (tick_seen hs ds x.bus a k.let_go))
             (subst (λ z. StandsThere (tick transfers (ports_side ds) u h) z then.watch f.due) (sym fed_as)
-            (subst (λ z. StandsThere (tick transfers (ports_side ds) u h) (feed transfers (ports_side ds) slots_left b e) z f.due)
+            (subst (λ z. StandsThere (tick transfers (ports_side ds) u h) (feed (game ds) b e) z f.due)
             (sym notes_as)
             f.stands));
         hosts = step_hosts hs x.bus.masters (signal x.bus.wire (levels_at hs ds x.bus))

@@ -1,12 +1,13 @@
--- One arbitration, slot by slot, and what each contender would carry alone.
-use Rattle.std.proofs.Common.{◌≡◌, ℕ, zero, suc, ◌<◌, ◌≤◌, Bool, false, cond, eqb, leb, List, [], ◌∷◌, Some, None, Option, map}
+-- One arbitration, slot by slot, and what each contender carries alone.
+use Rattle.std.proofs.Common.{ℕ, zero, suc, Bool, false, cond, eqb, leb, List, [], ◌∷◌, Some, None, Option, map}
 use Rattle.std.specs.Prelude.{slice_index_or}
 use Rattle.master.specs.declared.symbol.Symbol.{Symbol}
-use Rattle.master.specs.declared.symbol.Symbol.TheVariants.{Listen, Stop}
+use Rattle.master.specs.declared.symbol.Symbol.TheVariants.{Listen}
 use Rattle.master.specs.Script.{Script}
 use Rattle.law.proofs.FarSide.{Side, ends, heard, after, string, last, final, QuietFor}
 use Rattle.law.proofs.Machine.PhasesOfSlot.{rank}
 use Rattle.law.specs.Letter.{Letter, same_letter}
+use Rattle.law.proofs.Machine.Game.{Game}
 
 abbrev pub at : {A : Type 0} → List (Option A) → ℕ → Option A
 at l i = slice_index_or l i None
@@ -34,13 +35,23 @@ module _ (W : Script) where
   abbrev pub keep_all : Symbol → Bool → List (Option W.Cursor) → List (Option W.Cursor)
   keep_all x b ps = map (keep x b) ps
 
-module _ (W : Script) (D : Side) where
+module _ (G : Game) where
+  abbrev W : Script
+  W = G.script
+
+  abbrev D : Side
+  D = G.side
+
+  -- the cursors of all contenders, where those that are out have none
+  abbrev pub Live : Type 0
+  Live = List (Option W.Cursor)
+
   pub record Joint : Type 0 where
-    pub live : List (Option W.Cursor)
+    pub live : Live
     pub side : D.S
     pub over : Bool
 
-  abbrev pub moved : Symbol → List (Option W.Cursor) → D.S → Joint
+  abbrev pub moved : Symbol → Live → D.S → Joint
   moved x l s = record { live = keep_all W x (heard D x s) l; side = after D x s; over = ends x }
 
   abbrev pub slot : Joint → Joint
@@ -50,27 +61,22 @@ module _ (W : Script) (D : Side) where
   slots zero j = j
   slots (suc k) j = slots k (slot j)
 
-  abbrev pub opened : List (Option W.Cursor) → D.S → Joint
+  abbrev pub opened : Live → D.S → Joint
   opened l s = record { live = l; side = s; over = false }
+
+  -- after k slots of the contenders l from the side s
+  abbrev pub joint : Live → D.S → ℕ → Joint
+  joint l s k = slots k (opened l s)
 
   -- the side pulls only where the script listens
   abbrev pub Quiet : W.Cursor → D.S → Type 0
   Quiet p s = (n : ℕ) → QuietFor W D n p s
 
--- left: how many slots a cursor has left at the most
-module _ (W : Script) (D : Side) (left : W.Cursor → ℕ) where
   abbrev pub alone : W.Cursor → D.S → List Letter
-  alone p s = string W D (left p) p s
+  alone p s = string W D (G.left p) p s
 
   abbrev pub alone_side : W.Cursor → D.S → D.S
-  alone_side p s = last W D (left p) p s
+  alone_side p s = last W D (G.left p) p s
 
   abbrev pub alone_end : W.Cursor → D.S → W.Cursor
-  alone_end p s = final W D (left p) p s
-
--- what scripts and their likeness must satisfy
-pub record Laws (W : Script) (left : W.Cursor → ℕ) (Alike : W.Cursor → W.Cursor → Type 0) : Type 0 where
-  pub some_left : (p : W.Cursor) → 1 ≤ left p
-  pub fewer : (p : W.Cursor) (b : Bool) → (W.symbol p ≡ Stop → ⊥) → left (W.next p b) < left p
-  pub both_listen : (p q : W.Cursor) → Alike p q → W.symbol p ≡ Listen → W.symbol q ≡ Listen
-  pub still_alike : (p q : W.Cursor) (b : Bool) → Alike p q → W.symbol p ≡ W.symbol q → Alike (W.next p b) (W.next q b)
+  alone_end p s = final W D (G.left p) p s

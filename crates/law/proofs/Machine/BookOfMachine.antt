@@ -17,6 +17,7 @@ use Rattle.law.specs.Monitor.{Monitor, letters_of_bit, monitor_after_event as se
 use Rattle.law.specs.Law.{FirstDifference}
 use Rattle.law.specs.Letter.{Letter, same_string, first_or_same}
 use Rattle.law.proofs.Machine.Arbitration.{at, Quiet, alone, alone_side, alone_end}
+use Rattle.law.proofs.Machine.Game.{Game}
 
 -- for each master a task, or none
 abbrev pub Tasks : Script → Type 0
@@ -108,41 +109,6 @@ module _ (W : Script) where
   abbrev pub begins : Tasks W → List (Option W.Cursor)
   begins l = map begin_one l
 
-module _ (W : Script) (D : Side) (left : W.Cursor → ℕ) where
-  -- a task carried alone: its string, its outcome and the side after it
-  abbrev pub task_string : W.Task → D.S → List Letter
-  task_string t s = alone W D left (W.begin t) s
-
-  abbrev pub task_outcome : W.Task → D.S → W.Outcome
-  task_outcome t s = W.outcome (alone_end W D left (W.begin t) s)
-
-  abbrev pub task_side : W.Task → D.S → D.S
-  task_side t s = alone_side W D left (W.begin t) s
-
-  abbrev pub pick : W.Task → Option W.Task → D.S → W.Task
-  pick t None s = t
-  pick t (Some u) s = cond (first_or_same (task_string t s) (task_string u s)) t u
-
-  -- the first of those with the least string
-  abbrev pub leader : Tasks W → D.S → Option W.Task
-  leader [] s = None
-  leader (None ∷ l) s = leader l s
-  leader (Some t ∷ l) s = Some (pick t (leader l s) s)
-
-  abbrev pub wins : W.Task → Option W.Task → D.S → Bool
-  wins t None s = false
-  wins t (Some u) s = same_string (task_string t s) (task_string u s)
-
-  -- each contender with the leader's string, with the outcome that it is told, carried alone
-  abbrev pub outcomes : Tasks W → Option W.Task → D.S → List (Option W.Outcome)
-  outcomes [] q s = []
-  outcomes (None ∷ l) q s = None ∷ outcomes l q s
-  outcomes (Some t ∷ l) q s = cond (wins t q s) (Some (task_outcome t s)) None ∷ outcomes l q s
-
-  abbrev pub leader_side : Option W.Task → D.S → D.S
-  leader_side None s = s
-  leader_side (Some t) s = task_side t s
-
 module _ (W : Script) (D : Side) where
   pub record Book : Type 0 where
     -- the task of each master armed
@@ -158,36 +124,6 @@ module _ (W : Script) (D : Side) where
   abbrev pub opens : Tasks W → Option (Tasks W) → Option (Tasks W)
   opens os None = cond (any os) (Some os) None
   opens os (Some l) = Some l
-
-module _ (W : Script) (D : Side) (left : W.Cursor → ℕ) where
-  -- at a stop each contender's task is carried alone from the side that the last stop left, once it has seen the start
-  abbrev pub stop_tells : Tasks W → D.S → Option (Tasks W) → List (Option W.Outcome)
-  stop_tells os s None = nobody os
-  stop_tells os s (Some l) = outcomes W D left l (leader W D left l (D.begin s)) (D.begin s)
-
-  -- whom a tick with this event tells, by the book
-  abbrev pub book_tells : Book W D → Event → List (Option W.Outcome)
-  book_tells b Stop = stop_tells b.armed b.side b.turn
-  book_tells b (Rise x) = nobody b.armed
-  book_tells b Fall = nobody b.armed
-  book_tells b Start = nobody b.armed
-  book_tells b SteadyHigh = nobody b.armed
-  book_tells b SteadyLow = nobody b.armed
-
-  abbrev pub feed_stop : Tasks W → D.S → Option (Tasks W) → Book W D
-  feed_stop os s None = book W D os s None
-  feed_stop os s (Some l) =
-      let q = leader W D left l (D.begin s) in
-      let ts = outcomes W D left l q (D.begin s) in
-      book W D (disarm os ts) (leader_side W D left q (D.begin s)) None
-
-  abbrev pub feed : Book W D → Event → Book W D
-  feed b SteadyHigh = book W D b.armed b.side (opens W D b.armed b.turn)
-  feed b Stop = feed_stop b.armed b.side b.turn
-  feed b (Rise x) = b
-  feed b Fall = b
-  feed b Start = b
-  feed b SteadyLow = b
 
 -- the letters so far, and the level of the last rise, which counts at the next fall if no start or stop comes between
 pub record Spell : Type 0 where
@@ -236,7 +172,76 @@ module _ (W : Script) (D : Side) where
   abbrev pub arm_bus : Bus W D → Tasks W → ℕ → Bus W D
   arm_bus u ws i = record { wire = u.wire; masters = arm_masters W u.masters ws i; side = u.side; hold = u.hold }
 
-module _ (W : Script) (D : Side) (left : W.Cursor → ℕ) where
+module _ (G : Game) where
+  abbrev W : Script
+  W = G.script
+
+  abbrev D : Side
+  D = G.side
+
+  -- a task carried alone: its string, its outcome and the side after it
+  abbrev pub task_string : W.Task → D.S → List Letter
+  task_string t s = alone G (W.begin t) s
+
+  abbrev pub task_outcome : W.Task → D.S → W.Outcome
+  task_outcome t s = W.outcome (alone_end G (W.begin t) s)
+
+  abbrev pub task_side : W.Task → D.S → D.S
+  task_side t s = alone_side G (W.begin t) s
+
+  abbrev pub pick : W.Task → Option W.Task → D.S → W.Task
+  pick t None s = t
+  pick t (Some u) s = cond (first_or_same (task_string t s) (task_string u s)) t u
+
+  -- the first of those with the least string
+  abbrev pub leader : Tasks W → D.S → Option W.Task
+  leader [] s = None
+  leader (None ∷ l) s = leader l s
+  leader (Some t ∷ l) s = Some (pick t (leader l s) s)
+
+  abbrev pub wins : W.Task → Option W.Task → D.S → Bool
+  wins t None s = false
+  wins t (Some u) s = same_string (task_string t s) (task_string u s)
+
+  -- each contender with the leader's string, with the outcome that it is told, carried alone
+  abbrev pub outcomes : Tasks W → Option W.Task → D.S → List (Option W.Outcome)
+  outcomes [] q s = []
+  outcomes (None ∷ l) q s = None ∷ outcomes l q s
+  outcomes (Some t ∷ l) q s = cond (wins t q s) (Some (task_outcome t s)) None ∷ outcomes l q s
+
+  abbrev pub leader_side : Option W.Task → D.S → D.S
+  leader_side None s = s
+  leader_side (Some t) s = task_side t s
+
+  -- at a stop each contender's task is carried alone from the side that the last stop left, once it has seen the start
+  abbrev pub stop_tells : Tasks W → D.S → Option (Tasks W) → List (Option W.Outcome)
+  stop_tells os s None = nobody os
+  stop_tells os s (Some l) = outcomes l (leader l (D.begin s)) (D.begin s)
+
+  -- whom a tick with this event tells, by the book
+  abbrev pub book_tells : Book W D → Event → List (Option W.Outcome)
+  book_tells b Stop = stop_tells b.armed b.side b.turn
+  book_tells b (Rise x) = nobody b.armed
+  book_tells b Fall = nobody b.armed
+  book_tells b Start = nobody b.armed
+  book_tells b SteadyHigh = nobody b.armed
+  book_tells b SteadyLow = nobody b.armed
+
+  abbrev pub feed_stop : Tasks W → D.S → Option (Tasks W) → Book W D
+  feed_stop os s None = book W D os s None
+  feed_stop os s (Some l) =
+      let q = leader l (D.begin s) in
+      let ts = outcomes l q (D.begin s) in
+      book W D (disarm os ts) (leader_side q (D.begin s)) None
+
+  abbrev pub feed : Book W D → Event → Book W D
+  feed b SteadyHigh = book W D b.armed b.side (opens W D b.armed b.turn)
+  feed b Stop = feed_stop b.armed b.side b.turn
+  feed b (Rise x) = b
+  feed b Fall = b
+  feed b Start = b
+  feed b SteadyLow = b
+
   -- what a mark of a loss says: t is the open turn, s the side at rest, v who was marked before, and w is noted with this tick's event
   pub record Loses (t : Option (Tasks W)) (s : D.S) (v : List Bool) (w : Monitor) (i : ℕ) : Type 0 where
     pub turn : Tasks W
@@ -248,8 +253,8 @@ module _ (W : Script) (D : Side) (left : W.Cursor → ℕ) where
     pub letter : ℕ
     pub falls : w.falls ≡ suc letter
     pub least : W.Task
-    pub leads : leader W D left turn (D.begin s) ≡ Some least
-    pub first : FirstDifference (task_string W D left least (D.begin s)) (task_string W D left task (D.begin s)) letter
+    pub leads : leader turn (D.begin s) ≡ Some least
+    pub first : FirstDifference (task_string least (D.begin s)) (task_string task (D.begin s)) letter
 
   -- what a stop says of a contender i with the task p: s is the side at rest, v who was marked, ts who is told
   pub record Stopped (l : Tasks W) (s : D.S) (v : List Bool) (ts : List (Option W.Outcome)) (i : ℕ) (p : W.Task) : Type 0 where
@@ -257,21 +262,20 @@ module _ (W : Script) (D : Side) (left : W.Cursor → ℕ) where
     pub unmarked : is_some (at ts i) ≡ not (slice_index_or v i false)
     -- and those whose string is below each contender's
     pub least : is_some (at ts i) ≡ true → (j : ℕ) (q : W.Task) → at l j ≡ Some q →
-        first_or_same (task_string W D left p (D.begin s)) (task_string W D left q (D.begin s)) ≡ true
+        first_or_same (task_string p (D.begin s)) (task_string q (D.begin s)) ≡ true
     pub wins : ((j : ℕ) (q : W.Task) → at l j ≡ Some q →
-        first_or_same (task_string W D left p (D.begin s)) (task_string W D left q (D.begin s)) ≡ true) → is_some (at ts i) ≡ true
+        first_or_same (task_string p (D.begin s)) (task_string q (D.begin s)) ≡ true) → is_some (at ts i) ≡ true
 
   -- what was spelled, the stop included, is the least string
   pub record Spelled (l : Tasks W) (s : D.S) (letters : List Letter) : Type 0 where
     pub least : W.Task
-    pub leads : leader W D left l (D.begin s) ≡ Some least
-    pub whole : letters ≡ task_string W D left least (D.begin s)
+    pub leads : leader l (D.begin s) ≡ Some least
+    pub whole : letters ≡ task_string least (D.begin s)
 
--- what scripts and the side must satisfy; Fits: what may be armed; Rest: how a stop leaves the side
-pub record Plays (W : Script) (D : Side) (left : W.Cursor → ℕ) (Alike : W.Cursor → W.Cursor → Type 0)
-    (Fits : W.Task → Type 0) (Rest : D.S → Type 0) : Type 0 where
-  pub alike : (t u : W.Task) → Fits t → Fits u → Alike (W.begin t) (W.begin u)
-  pub short : (t : W.Task) → Fits t → left (W.begin t) ≤ most_letters
-  pub quiet : (t : W.Task) (s : D.S) → Fits t → Rest s → Quiet W D (W.begin t) (D.begin s)
-  pub calm : (s : D.S) → Rest s → D.pulls s ≡ false
-  pub rests : (t : W.Task) (s : D.S) → Fits t → Rest s → Rest (task_side W D left t (D.begin s))
+  -- what scripts and the side must satisfy; Fits: what may be armed; Rest: how a stop leaves the side
+  pub record Plays (Fits : W.Task → Type 0) (Rest : D.S → Type 0) : Type 0 where
+    pub alike : (t u : W.Task) → Fits t → Fits u → G.Alike (W.begin t) (W.begin u)
+    pub short : (t : W.Task) → Fits t → G.left (W.begin t) ≤ most_letters
+    pub quiet : (t : W.Task) (s : D.S) → Fits t → Rest s → Quiet G (W.begin t) (D.begin s)
+    pub calm : (s : D.S) → Rest s → D.pulls s ≡ false
+    pub rests : (t : W.Task) (s : D.S) → Fits t → Rest s → Rest (task_side t (D.begin s))

@@ -1,14 +1,17 @@
 -- The cells of a turn: who is armed, who was marked, and what an arm changes.
-use Rattle.std.proofs.Common.{◌≡◌, ℕ, zero, suc, Bool, true, false, not, ◌&&◌, ◌||◌, eqb, List, [], ◌∷◌, is_some, Some, None, Option, refl, ap, ◌∙◌, ap₂, map, arith}
+use Rattle.std.proofs.Common.{◌≡◌, ℕ, zero, suc, Bool, true, false, not, ◌&&◌, ◌||◌, eqb, List, [], ◌∷◌, is_some, Some}
+use Rattle.std.proofs.Common.{None, Option, refl, ap, ◌∙◌, ap₂, map, arith}
 use Rattle.std.specs.Prelude.{slice_index_or}
 use Rattle.master.specs.declared.arming.Arming.{Arming}
 use Rattle.master.specs.declared.symbol.Symbol.{Symbol}
 use Rattle.master.specs.Arming.{arming_after_arm}
 use Rattle.master.specs.MasterState.{MasterModel, VerdictModel, quiet, lost, arm_master}
 use Rattle.master.specs.Script.{Script}
-use Rattle.law.proofs.Machine.PhasesOfSlot.{rank, Cell, out, live, looks, notes, cursor, cursors, some, alive, Every, Timed, who, stay, advance, finished, claim_all}
+use Rattle.law.proofs.Machine.PhasesOfSlot.{rank, Cell, out, live, looks, notes, cursor, cursors, some, alive, Every}
+use Rattle.law.proofs.Machine.PhasesOfSlot.{Timed, who, stay, advance, finished, claim_all}
 use Rattle.law.proofs.Machine.Arbitration.{at}
-use Rattle.law.proofs.Machine.BookOfMachine.{Tasks, count, any, armed_if, arm_book, nobody, task_of, armeds, pulling, is_lost, telling, tellings, arm_masters, begins, falses, marks_too}
+use Rattle.law.proofs.Machine.BookOfMachine.{Tasks, count, any, armed_if, arm_book, nobody, task_of, armeds, pulling}
+use Rattle.law.proofs.Machine.BookOfMachine.{is_lost, telling, tellings, arm_masters, begins, falses, marks_too}
 
 pub armed_same : {A : Type 0} → (o w : Option A) → is_some o ≡ true → armed_if o w ≡ o
 armed_same o w h = grind arith
@@ -128,40 +131,51 @@ module _ (W : Script) where
   marked_claim (c ∷ cs) = grind (arith, marked_claim cs)
 
   -- who was marked, after verdicts and after a slot; g: whom the verdicts mark
-  pub marked_more : (f g : Symbol → Bool) (k : Symbol → W.Cursor → VerdictModel W) (each : (x : Symbol) (p : W.Cursor) → is_lost W (k x p) ≡ g x)
-      (l : Tasks W) (cs : List (Cell W)) → Within l cs → marks_too W (marked f l cs) (notes W k cs) ≡ marked (λ x. f x || g x) l cs
+  pub marked_more : (f g : Symbol → Bool) (k : Symbol → W.Cursor → VerdictModel W)
+      (each : (x : Symbol) (p : W.Cursor) → is_lost W (k x p) ≡ g x) (l : Tasks W) (cs : List (Cell W)) → Within l cs →
+      marks_too W (marked f l cs) (notes W k cs) ≡ marked (λ x. f x || g x) l cs
   marked_more f g k each [] [] h = refl
   marked_more f g k each [] (c ∷ cs) h = absurd h
   marked_more f g k each (o ∷ l) [] h = absurd h
   marked_more f g k each (o ∷ l) (out m ∷ cs) h = ap₂ ◌∷◌ (mark_out (is_some o)) (marked_more f g k each l cs h)
   marked_more f g k each (o ∷ l) (live m p ∷ cs) h =
-      ap₂ ◌∷◌ (ap (λ v. (is_some o && f (W.symbol p)) || v) (each (W.symbol p) p) ∙ mark_one (is_some o) (f (W.symbol p)) (g (W.symbol p)) h.0) (marked_more f g k each l cs h.1)
+      let x = W.symbol p in
+      let here = ap (λ v. (is_some o && f x) || v) (each x p) ∙ mark_one (is_some o) (f x) (g x) h.0 in
+      ap₂ ◌∷◌ here (marked_more f g k each l cs h.1)
 
-  pub marked_stay : (f : Symbol → Bool) (n : ℕ) (l : Tasks W) (cs : List (Cell W)) → Every W (λ x. f x ≡ not (eqb (rank x) n)) cs → marked f l cs ≡ marked never l (stay W n cs)
+  pub marked_stay : (f : Symbol → Bool) (n : ℕ) (l : Tasks W) (cs : List (Cell W)) →
+      Every W (λ x. f x ≡ not (eqb (rank x) n)) cs → marked f l cs ≡ marked never l (stay W n cs)
   marked_stay f n [] cs h = refl
   marked_stay f n (o ∷ l) [] h = refl
   marked_stay f n (o ∷ l) (c ∷ cs) h = grind (arith, marked_stay f n l cs)
 
-  pub marked_advance : (b : Bool) (l : Tasks W) (cs : List (Cell W)) → marked never l (advance W b cs) ≡ marked never l cs
+  pub marked_advance : (b : Bool) (l : Tasks W) (cs : List (Cell W)) →
+      marked never l (advance W b cs) ≡ marked never l cs
   marked_advance b [] cs = refl
   marked_advance b (o ∷ l) [] = refl
   marked_advance b (o ∷ l) (c ∷ cs) = grind (arith, marked_advance b l cs)
 
   -- who is marked now was live, and whoever is live and does not pass the test was not marked
-  pub note_at : (k : Symbol → W.Cursor → VerdictModel W) (cs : List (Cell W)) (i : ℕ) → slice_index_or (notes W k cs) i quiet ≡ lost → (p : W.Cursor) × (at (cursors W cs) i ≡ Some p) × (k (W.symbol p) p ≡ lost)
+  pub note_at : (k : Symbol → W.Cursor → VerdictModel W) (cs : List (Cell W)) (i : ℕ) →
+      slice_index_or (notes W k cs) i quiet ≡ lost →
+      (p : W.Cursor) × (at (cursors W cs) i ≡ Some p) × (k (W.symbol p) p ≡ lost)
   note_at k [] i h = cc
   note_at k (out m ∷ cs) zero h = cc
   note_at k (live m p ∷ cs) zero h = (p, refl, h)
   note_at k (c ∷ cs) (suc i) h = grind (arith, note_at k cs)
 
-  pub unmarked : (f : Symbol → Bool) (l : Tasks W) (cs : List (Cell W)) (i : ℕ) (p : W.Cursor) → at (cursors W cs) i ≡ Some p → f (W.symbol p) ≡ false → slice_index_or (marked f l cs) i false ≡ false
+  pub unmarked : (f : Symbol → Bool) (l : Tasks W) (cs : List (Cell W)) (i : ℕ) (p : W.Cursor) →
+      at (cursors W cs) i ≡ Some p → f (W.symbol p) ≡ false → slice_index_or (marked f l cs) i false ≡ false
   unmarked f [] cs i p e h = refl
   unmarked f (o ∷ l) [] i p e h = refl
   unmarked f (o ∷ l) (out m ∷ cs) zero p e h = cc
-  unmarked f (o ∷ l) (live m q ∷ cs) zero p e h = let z : q ≡ p = cc in false_and (is_some o) (f (W.symbol q)) (ap (λ r. f (W.symbol r)) z ∙ h)
+  unmarked f (o ∷ l) (live m q ∷ cs) zero p e h =
+      let z : q ≡ p = cc in
+      false_and (is_some o) (f (W.symbol q)) (ap (λ r. f (W.symbol r)) z ∙ h)
   unmarked f (o ∷ l) (c ∷ cs) (suc i) p e h = grind (arith, unmarked f l cs)
 
-  pub contender : (l : Tasks W) (cs : List (Cell W)) → Within l cs → (i : ℕ) (p : W.Cursor) → at (cursors W cs) i ≡ Some p → (q : W.Task) × (at l i ≡ Some q)
+  pub contender : (l : Tasks W) (cs : List (Cell W)) → Within l cs → (i : ℕ) (p : W.Cursor) →
+      at (cursors W cs) i ≡ Some p → (q : W.Task) × (at l i ≡ Some q)
   contender [] [] h i p e = cc
   contender [] (c ∷ cs) h i p e = absurd h
   contender (o ∷ l) [] h i p e = absurd h
@@ -170,20 +184,26 @@ module _ (W : Script) where
   contender (o ∷ l) (c ∷ cs) h (suc i) p e = grind (arith, contender l cs)
 
   -- who was marked pulls nothing
-  pub pulls_nothing : (f : Symbol → Bool) (g : MasterModel W → W.Cursor → MasterModel W) (each : (m : MasterModel W) (p : W.Cursor) → f (W.symbol p) ≡ true → ((g m p).pulls.scl || (g m p).pulls.sda) ≡ false)
-      (l : Tasks W) (cs : List (Cell W)) (i : ℕ) → slice_index_or (marked f l cs) i false ≡ true → pulling W (looks W g cs) i ≡ false
+  pub pulls_nothing : (f : Symbol → Bool) (g : MasterModel W → W.Cursor → MasterModel W)
+      (each : (m : MasterModel W) (p : W.Cursor) → f (W.symbol p) ≡ true → ((g m p).pulls.scl || (g m p).pulls.sda) ≡ false)
+      (l : Tasks W) (cs : List (Cell W)) (i : ℕ) →
+      slice_index_or (marked f l cs) i false ≡ true → pulling W (looks W g cs) i ≡ false
   pulls_nothing f g each [] cs i h = cc
   pulls_nothing f g each (o ∷ l) [] i h = cc
   pulls_nothing f g each (o ∷ l) (out m ∷ cs) zero h = refl
   pulls_nothing f g each (o ∷ l) (live m p ∷ cs) zero h = each m p (and_right (is_some o) (f (W.symbol p)) h)
   pulls_nothing f g each (o ∷ l) (c ∷ cs) (suc i) h = grind (arith, pulls_nothing f g each l cs)
 
-  pub armeds_looks : (f : MasterModel W → W.Cursor → MasterModel W) (keeps : (m : MasterModel W) (p : W.Cursor) → (f m p).arming ≡ m.arming) (cs : List (Cell W)) → armeds W (looks W f cs) ≡ cell_armeds cs
+  pub armeds_looks : (f : MasterModel W → W.Cursor → MasterModel W)
+      (keeps : (m : MasterModel W) (p : W.Cursor) → (f m p).arming ≡ m.arming) (cs : List (Cell W)) →
+      armeds W (looks W f cs) ≡ cell_armeds cs
   armeds_looks f keeps [] = refl
   armeds_looks f keeps (c ∷ cs) = grind (arith, armeds_looks f keeps cs)
 
   -- whom a tick tells
-  pub tells_none : (k : Symbol → W.Cursor → VerdictModel W) (mute : (x : Symbol) (p : W.Cursor) → telling W (k x p) ≡ None) (cs : List (Cell W)) → tellings W (notes W k cs) ≡ nobody (cell_armeds cs)
+  pub tells_none : (k : Symbol → W.Cursor → VerdictModel W)
+      (mute : (x : Symbol) (p : W.Cursor) → telling W (k x p) ≡ None) (cs : List (Cell W)) →
+      tellings W (notes W k cs) ≡ nobody (cell_armeds cs)
   tells_none k mute [] = refl
   tells_none k mute (c ∷ cs) = grind (arith, tells_none k mute cs)
 
@@ -205,8 +225,10 @@ module _ (W : Script) where
   arm_task : (a : Arming W.Task) (w : Option W.Task) → armed_if (task_of W a) w ≡ task_of W (arming_after_arm a w).1
   arm_task a w = grind arith
 
-  pub arm_looks : (f : MasterModel W → W.Cursor → MasterModel W) (keeps : (m : MasterModel W) (p : W.Cursor) → (f m p).arming ≡ m.arming)
-      (cs : List (Cell W)) (ws : Tasks W) (i : ℕ) → Holding W cs → arm_masters W (looks W f cs) ws i ≡ looks W f (arm_cells cs ws i)
+  pub arm_looks : (f : MasterModel W → W.Cursor → MasterModel W)
+      (keeps : (m : MasterModel W) (p : W.Cursor) → (f m p).arming ≡ m.arming)
+      (cs : List (Cell W)) (ws : Tasks W) (i : ℕ) → Holding W cs →
+      arm_masters W (looks W f cs) ws i ≡ looks W f (arm_cells cs ws i)
   arm_looks f keeps [] ws i h = refl
   arm_looks f keeps (c ∷ cs) [] i h = refl
   arm_looks f keeps (out m ∷ cs) (w ∷ ws) zero h = refl
@@ -214,7 +236,8 @@ module _ (W : Script) where
       grind (arith, arm_none (f m p).arming w (ap (λ a. is_some (task_of W a)) (keeps m p) ∙ h.0))
   arm_looks f keeps (c ∷ cs) (w ∷ ws) (suc i) h = grind (arith, arm_looks f keeps cs)
 
-  pub arm_armeds : (cs : List (Cell W)) (ws : Tasks W) (i : ℕ) → Holding W cs → arm_book (cell_armeds W cs) ws i ≡ cell_armeds W (arm_cells cs ws i)
+  pub arm_armeds : (cs : List (Cell W)) (ws : Tasks W) (i : ℕ) → Holding W cs →
+      arm_book (cell_armeds W cs) ws i ≡ cell_armeds W (arm_cells cs ws i)
   arm_armeds [] ws i h = refl
   arm_armeds (c ∷ cs) [] i h = refl
   arm_armeds (out m ∷ cs) (w ∷ ws) zero h = ap (λ x. x ∷ cell_armeds W cs) (arm_task m.arming w)
@@ -235,7 +258,8 @@ module _ (W : Script) where
   arm_holding (live m p ∷ cs) (w ∷ ws) zero h = h
   arm_holding (c ∷ cs) (w ∷ ws) (suc i) h = grind (arith, arm_holding cs)
 
-  pub arm_within : (l : Tasks W) (cs : List (Cell W)) (ws : Tasks W) (i : ℕ) → Within W l cs → Within W l (arm_cells cs ws i)
+  pub arm_within : (l : Tasks W) (cs : List (Cell W)) (ws : Tasks W) (i : ℕ) → Within W l cs →
+      Within W l (arm_cells cs ws i)
   arm_within [] [] ws i h = tt
   arm_within [] (c ∷ cs) ws i h = absurd h
   arm_within (o ∷ l) [] ws i h = absurd h
@@ -244,7 +268,8 @@ module _ (W : Script) where
   arm_within (o ∷ l) (live m p ∷ cs) (w ∷ ws) zero h = h
   arm_within (o ∷ l) (c ∷ cs) (w ∷ ws) (suc i) h = grind (arith, arm_within l cs)
 
-  pub arm_some : (f : Symbol → Bool) (cs : List (Cell W)) (ws : Tasks W) (i : ℕ) → some W f (arm_cells cs ws i) ≡ some W f cs
+  pub arm_some : (f : Symbol → Bool) (cs : List (Cell W)) (ws : Tasks W) (i : ℕ) →
+      some W f (arm_cells cs ws i) ≡ some W f cs
   arm_some f [] ws i = refl
   arm_some f (c ∷ cs) [] i = refl
   arm_some f (out m ∷ cs) (w ∷ ws) zero = refl
@@ -258,7 +283,8 @@ module _ (W : Script) where
   arm_cursors (live m p ∷ cs) (w ∷ ws) zero = refl
   arm_cursors (c ∷ cs) (w ∷ ws) (suc i) = ap (λ l. cursor W c ∷ l) (arm_cursors cs ws i)
 
-  pub arm_marked : (f : Symbol → Bool) (l : Tasks W) (cs : List (Cell W)) (ws : Tasks W) (i : ℕ) → marked W f l cs ≡ marked W f l (arm_cells cs ws i)
+  pub arm_marked : (f : Symbol → Bool) (l : Tasks W) (cs : List (Cell W)) (ws : Tasks W) (i : ℕ) →
+      marked W f l cs ≡ marked W f l (arm_cells cs ws i)
   arm_marked f [] cs ws i = refl
   arm_marked f (o ∷ l) [] ws i = refl
   arm_marked f (o ∷ l) (c ∷ cs) [] i = refl
@@ -266,7 +292,8 @@ module _ (W : Script) where
   arm_marked f (o ∷ l) (live m p ∷ cs) (w ∷ ws) zero = refl
   arm_marked f (o ∷ l) (c ∷ cs) (w ∷ ws) (suc i) = grind (arith, arm_marked f l cs ws i)
 
-  pub arm_advance : (b : Bool) (cs : List (Cell W)) (ws : Tasks W) (i : ℕ) → cursors W (advance W b (arm_cells cs ws i)) ≡ cursors W (advance W b cs)
+  pub arm_advance : (b : Bool) (cs : List (Cell W)) (ws : Tasks W) (i : ℕ) →
+      cursors W (advance W b (arm_cells cs ws i)) ≡ cursors W (advance W b cs)
   arm_advance b [] ws i = refl
   arm_advance b (c ∷ cs) [] i = refl
   arm_advance b (out m ∷ cs) (w ∷ ws) zero = refl

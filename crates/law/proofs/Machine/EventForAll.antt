@@ -13,14 +13,17 @@ pub rank_top : (x : Symbol) → rank x ≤ 4
 rank_top x = grind arith
 
 module _ (W : Script) where
-  pub step_all : (f g : MasterModel W → W.Cursor → MasterModel W) (t : MasterModel W → W.Cursor → Cell W) (s : Signal) (Q : Symbol → Type 0)
+  pub step_all : (f g : MasterModel W → W.Cursor → MasterModel W) (t : MasterModel W → W.Cursor → Cell W)
+      (s : Signal) (Q : Symbol → Type 0)
       (still : (m : MasterModel W) → (master_step W (off W m) s).0 ≡ off W m)
-      (each : (m : MasterModel W) (p : W.Cursor) → Times W m → Q (W.symbol p) → (master_step W (f m p) s).0 ≡ look W g (t m p))
+      (each : (m : MasterModel W) (p : W.Cursor) → Times W m → Q (W.symbol p) →
+      (master_step W (f m p) s).0 ≡ look W g (t m p))
       (cs : List (Cell W)) → Timed W cs → Every W Q cs → masters_step W (looks W f cs) s ≡ looks W g (turns W t cs)
   step_all f g t s Q still each [] h q = refl
   step_all f g t s Q still each (c ∷ cs) h q = grind (arith, step_all f g t s Q still each cs)
 
-  pub verdicts_all : (f : MasterModel W → W.Cursor → MasterModel W) (k : Symbol → W.Cursor → VerdictModel W) (s : Signal) (Q : Symbol → Type 0)
+  pub verdicts_all : (f : MasterModel W → W.Cursor → MasterModel W) (k : Symbol → W.Cursor → VerdictModel W)
+      (s : Signal) (Q : Symbol → Type 0)
       (still : (m : MasterModel W) → (master_step W (off W m) s).1 ≡ quiet)
       (each : (m : MasterModel W) (p : W.Cursor) → Q (W.symbol p) → (master_step W (f m p) s).1 ≡ k (W.symbol p) p)
       (cs : List (Cell W)) → Every W Q cs → verdicts W (looks W f cs) s ≡ notes W k cs
@@ -31,12 +34,14 @@ module _ (W : Script) where
   turns_live [] = refl
   turns_live (c ∷ cs) = grind (arith, turns_live cs)
 
-  pub sda_all : (f : MasterModel W → W.Cursor → MasterModel W) (t : Symbol → Bool) (each : (m : MasterModel W) (p : W.Cursor) → (f m p).pulls.sda ≡ t (W.symbol p))
+  pub sda_all : (f : MasterModel W → W.Cursor → MasterModel W) (t : Symbol → Bool)
+      (each : (m : MasterModel W) (p : W.Cursor) → (f m p).pulls.sda ≡ t (W.symbol p))
       (cs : List (Cell W)) → any_sda W (looks W f cs) ≡ some W t cs
   sda_all f t each [] = refl
   sda_all f t each (c ∷ cs) = grind (arith, sda_all f t each cs)
 
-  pub scl_none : (f : MasterModel W → W.Cursor → MasterModel W) (each : (m : MasterModel W) (p : W.Cursor) → (f m p).pulls.scl ≡ false)
+  pub scl_none : (f : MasterModel W → W.Cursor → MasterModel W)
+      (each : (m : MasterModel W) (p : W.Cursor) → (f m p).pulls.scl ≡ false)
       (cs : List (Cell W)) → any_scl W (looks W f cs) ≡ false
   scl_none f each [] = refl
   scl_none f each (c ∷ cs) = grind (arith, scl_none f each cs)
@@ -49,7 +54,8 @@ module _ (W : Script) where
   every Q R f [] q = tt
   every Q R f (c ∷ cs) q = grind (arith, every Q R f cs)
 
-  pub every_two : (Q R : Symbol → Type 0) → (cs : List (Cell W)) → Every W Q cs → Every W R cs → Every W (λ x. Q x × R x) cs
+  pub every_two : (Q R : Symbol → Type 0) → (cs : List (Cell W)) → Every W Q cs → Every W R cs →
+      Every W (λ x. Q x × R x) cs
   every_two Q R [] q r = tt
   every_two Q R (c ∷ cs) q r = grind (arith, every_two Q R cs)
 
@@ -62,7 +68,8 @@ module _ (W : Script) where
   least_below n [] h = tt
   least_below n (c ∷ cs) h = grind (arith, least_below n cs)
 
-  pub least_some : (t : Symbol → Bool) (n : ℕ) (each : (x : Symbol) → rank x ≡ n → t x ≡ true) (cs : List (Cell W)) → least W cs ≡ n → n ≤ 4 → some W t cs ≡ true
+  pub least_some : (t : Symbol → Bool) (n : ℕ) (each : (x : Symbol) → rank x ≡ n → t x ≡ true) (cs : List (Cell W)) →
+      least W cs ≡ n → n ≤ 4 → some W t cs ≡ true
   least_some t n each [] h k = absurd (omega arith)
   least_some t n each (c ∷ cs) h k = grind (arith, least_some t n each cs)
 
@@ -75,5 +82,6 @@ module _ (W : Script) (D : Side) where
   pub via : (u w : Bus W D) (v : Levels) (h : ℕ) → levels W D u ≡ v → after W D u v h ≡ w → tick W D u h ≡ w
   via u w v h k e = grind arith
 
-  pub via_verdicts : (u : Bus W D) (ks : List (VerdictModel W)) (v : Levels) → levels W D u ≡ v → said W D u v ≡ ks → tick_verdicts W D u ≡ ks
+  pub via_verdicts : (u : Bus W D) (ks : List (VerdictModel W)) (v : Levels) → levels W D u ≡ v → said W D u v ≡ ks →
+      tick_verdicts W D u ≡ ks
   via_verdicts u ks v h k = grind arith

@@ -21,7 +21,7 @@ use Rattle.law.proofs.Machine.BusAsMachine.{any_scl, verdicts, asked, Bus, tick,
 use Rattle.law.proofs.Machine.PhasesOfSlot.{lines, shown, rank, holds, early_lost, late_lost, Cell, looks, notes, no_verdict, early, late}
 use Rattle.law.proofs.Machine.PhasesOfSlot.{cursors, opened, settled, some, Every, Timed, least, stay, advance, finished, claim_all}
 use Rattle.law.proofs.Machine.PhasesOfSlot.{free_bus, claimed_bus, opened_bus, low_bus, fresh_bus, settled_bus, carries, held, Shape}
-use Rattle.law.proofs.Machine.Arbitration.{at, lead, Quiet, Laws}
+use Rattle.law.proofs.Machine.Arbitration.{at, lead, Quiet}
 use Rattle.law.proofs.Machine.BookOfMachine.{Tasks, count, any, nobody, disarm, is_lost, telling, tellings, begins, task_string, leader}
 use Rattle.law.proofs.Machine.BookOfMachine.{wins, outcomes, leader_side, Book, book, feed, book_tells, Spell, spell, fallen, watch, falses}
 use Rattle.law.proofs.Machine.BookOfMachine.{marks_too, turned, noted, sees, Loses, Stopped, Spelled, Plays}
@@ -45,6 +45,7 @@ use Rattle.law.proofs.Machine.SlotsTellLeast.{task_at, leader_in, loses_at, wins
 use Rattle.law.proofs.Machine.Invariant.{Ready, Crew, Fit, Spelt, Stands, idle, claims, begun, low, rose, high}
 use Rattle.law.proofs.Machine.TickOfStop.{ending, tells_end, armeds_finished, counts_end, somebody_told, disarmed, tells_unmarked}
 use Rattle.law.proofs.Machine.TickOfStop.{outcome_at, told_at_stop}
+use Rattle.law.proofs.Machine.Game.{Game}
 
 asked_to : (k : Option Bool) (h : ℕ) → h ≤ most_count → asked k h ≤ most_count
 asked_to None h b = omega arith
@@ -157,27 +158,32 @@ module _ (D : Side) where
   early_behind symbol.RepeatedStart s true h e = cc
   early_behind symbol.RepeatedStart s false h e = cc
 
-module _ (W : Script) (D : Side) (left : W.Cursor → ℕ) (Alike : W.Cursor → W.Cursor → Type 0)
-    (Fits : W.Task → Type 0) (Rest : D.S → Type 0) (laws : Laws W left Alike) (plays : Plays W D left Alike Fits Rest) where
+module _ (G : Game) (Fits : G.script.Task → Type 0) (Rest : G.side.S → Type 0) (plays : Plays G Fits Rest) where
+  abbrev W : Script
+  W = G.script
+
+  abbrev D : Side
+  D = G.side
+
   -- the slots of the turn of l so far, and what was spelled in k of them; s is the side at rest
   abbrev Slots : Tasks W → D.S → ℕ → ℕ → List (Option W.Cursor) → D.S → Type 0
-  Slots l s k r ps s' = Run W D left Alike (begins W l) (D.begin s) k r ps s'
+  Slots l s k r ps s' = Run G (begins W l) (D.begin s) k r ps s'
 
   abbrev text : Tasks W → D.S → ℕ → List Letter
-  text l s k = spelled W D (begins W l) (D.begin s) k
+  text l s k = spelled G (begins W l) (D.begin s) k
 
   abbrev Fits_in : Tasks W → Tasks W → D.S → Type 0
   Fits_in os l s = Fit W D Fits Rest os l s
 
   abbrev StandsAs : Bus W D → Tasks W → D.S → Option (Tasks W) → Monitor → ℕ → Type 0
-  StandsAs u os s t w n = Stands W D left Alike Fits Rest u os s t w n
+  StandsAs u os s t w n = Stands G Fits Rest u os s t w n
 
   -- the book after the event e, and whom it tells there
   abbrev fed : Tasks W → D.S → Option (Tasks W) → Event → Book W D
-  fed os s t e = feed W D left (book W D os s t) e
+  fed os s t e = feed G (book W D os s t) e
 
   abbrev told_by : Tasks W → D.S → Option (Tasks W) → Event → List (Option W.Outcome)
-  told_by os s t e = book_tells W D left (book W D os s t) e
+  told_by os s t e = book_tells G (book W D os s t) e
 
   -- what a tick to the bus u with the event e and the verdicts ks does; due: how many ticks are then left at the most until an
   -- outcome is told
@@ -187,10 +193,10 @@ module _ (W : Script) (D : Side) (left : W.Cursor → ℕ) (Alike : W.Cursor →
     pub stands : StandsAs u (fed os s t e).armed (fed os s t e).side (fed os s t e).turn (sees W w os t e ks) due
     pub tells : tellings W ks ≡ told_by os s t e
     pub counts : count (fed os s t e).armed + count (told_by os s t e) ≡ count os
-    pub loses : (i : ℕ) → slice_index_or ks i quiet ≡ lost → Loses W D left t s w.marked (turned W w os t e) i
+    pub loses : (i : ℕ) → slice_index_or ks i quiet ≡ lost → Loses G t s w.marked (turned W w os t e) i
     pub stops : e ≡ Stop → (l : Tasks W) → t ≡ Some l → (i : ℕ) (p : W.Task) → at l i ≡ Some p →
-        Stopped W D left l s w.marked (tellings W ks) i p
-    pub spelled : e ≡ Stop → (l : Tasks W) → t ≡ Some l → Spelled W D left l s (turned W w os t e).spelled
+        Stopped G l s w.marked (tellings W ks) i p
+    pub spelled : e ≡ Stop → (l : Tasks W) → t ≡ Some l → Spelled G l s (turned W w os t e).spelled
     pub falls : (1 ≤ count (told_by os s t e)) ⊎ (((due < n) × ((fed os s t e).armed ≡ os)) ⊎ (any os ≡ false))
 
   -- by what the tick is known to be
@@ -206,7 +212,7 @@ module _ (W : Script) (D : Side) (left : W.Cursor → ℕ) (Alike : W.Cursor →
   silent : (os : Tasks W) (s : D.S) (t t' : Option (Tasks W)) (w w' : Monitor) (n n' : ℕ) (u : Bus W D) (e : Event)
       (ks : List (VerdictModel W)) →
       fed os s t e ≡ book W D os s t' → told_by os s t e ≡ nobody os → (e ≡ Stop → ⊥) → sees W w os t e ks ≡ w' →
-      tellings W ks ≡ nobody os → ((i : ℕ) → slice_index_or ks i quiet ≡ lost → Loses W D left t s w.marked (turned W w os t e) i) →
+      tellings W ks ≡ nobody os → ((i : ℕ) → slice_index_or ks i quiet ≡ lost → Loses G t s w.marked (turned W w os t e) i) →
       (n' < n) ⊎ (any os ≡ false) → StandsAs u os s t' w' n' → Fine os s t w n u e ks
   silent os s t t' w w' n n' u e ks fe te ne se ts ls fs st = record {
     due = n';
@@ -221,7 +227,7 @@ module _ (W : Script) (D : Side) (left : W.Cursor → ℕ) (Alike : W.Cursor →
   }
 
   no_loses : (t : Option (Tasks W)) (s : D.S) (v : List Bool) (w : Monitor) (cs : List (Cell W)) (i : ℕ) →
-      slice_index_or (notes W (no_verdict W) cs) i quiet ≡ lost → Loses W D left t s v w i
+      slice_index_or (notes W (no_verdict W) cs) i quiet ≡ lost → Loses G t s v w i
   no_loses t s v w cs i h = let a = note_at W (no_verdict W) cs i h in let b : ◌≡◌ {A = VerdictModel W} quiet lost = a.2 in cc
 
   abbrev pub Real : Bus W D → Tasks W → D.S → Option (Tasks W) → Monitor → ℕ → ℕ → Type 0
@@ -252,24 +258,24 @@ module _ (W : Script) (D : Side) (left : W.Cursor → ℕ) (Alike : W.Cursor →
     sums = omega arith;
   }
     where
-      small : (i : ℕ) (p : W.Cursor) → at (begins W os) i ≡ Some p → left p ≤ most_letters
-      small i p e = let t = task_at W os i p e in subst (λ x. left x ≤ most_letters) t.2 (plays.short t.0 (y i t.0 t.1))
+      small : (i : ℕ) (p : W.Cursor) → at (begins W os) i ≡ Some p → G.left p ≤ most_letters
+      small i p e = let t = task_at W os i p e in subst (λ x. G.left x ≤ most_letters) t.2 (plays.short t.0 (y i t.0 t.1))
 
-      alike : (i k : ℕ) (p r : W.Cursor) → at (begins W os) i ≡ Some p → at (begins W os) k ≡ Some r → Alike p r
+      alike : (i k : ℕ) (p r : W.Cursor) → at (begins W os) i ≡ Some p → at (begins W os) k ≡ Some r → G.Alike p r
       alike i k p r e d =
           let t = task_at W os i p e in
           let u = task_at W os k r d in
-          subst (λ x. Alike x r) t.2 (subst (λ x. Alike (W.begin t.0) x) u.2 (plays.alike t.0 u.0 (y i t.0 t.1) (y k u.0 u.1)))
+          subst (λ x. G.Alike x r) t.2 (subst (λ x. G.Alike (W.begin t.0) x) u.2 (plays.alike t.0 u.0 (y i t.0 t.1) (y k u.0 u.1)))
 
-      silent_side : (i : ℕ) (p : W.Cursor) → at (begins W os) i ≡ Some p → Quiet W D p (D.begin s)
-      silent_side i p e = let t = task_at W os i p e in subst (λ x. Quiet W D x (D.begin s)) t.2 (plays.quiet t.0 s (y i t.0 t.1) q)
+      silent_side : (i : ℕ) (p : W.Cursor) → at (begins W os) i ≡ Some p → Quiet G p (D.begin s)
+      silent_side i p e = let t = task_at W os i p e in subst (λ x. Quiet G x (D.begin s)) t.2 (plays.quiet t.0 s (y i t.0 t.1) q)
 
   tick_idle : (os : Tasks W) (s : D.S) (w : Monitor) (cs : List (Cell W)) (h : ℕ) → os ≡ cell_armeds W cs → Timed W cs → Holding W cs →
       Rest s → Ready Fits os → Real (free_bus W D cs s) os s None w ticks_of_turn h
   tick_idle os s w cs h a t g q y = go (any os) refl
     where
       goes : tick W D (free_bus W D cs s) h ≡ claimed_bus W D (claim_all W cs) s
-      goes = free_claims W D cs s h (plays.calm s q)
+      goes = free_claims G cs s h (plays.calm s q)
 
       go : (v : Bool) → any os ≡ v → Real (free_bus W D cs s) os s None w ticks_of_turn h
       go true v =
@@ -294,7 +300,7 @@ module _ (W : Script) (D : Side) (left : W.Cursor → ℕ) (Alike : W.Cursor →
       go false v =
           plain (free_bus W D cs s) cs os s None None w (noted W w (notes W (no_verdict W) cs)) ticks_of_turn ticks_of_turn h
           (free_bus W D (claim_all W cs) s) SteadyHigh a
-          (goes ∙ free_stays W D (claim_all W cs) s (alive_claim W cs ∙ ap any (sym a) ∙ v)) refl (idle_quiet W cs)
+          (goes ∙ free_stays G (claim_all W cs) s (alive_claim W cs ∙ ap any (sym a) ∙ v)) refl (idle_quiet W cs)
           (ap (λ z. book W D os s (cond z (Some os) None)) v) refl high_no
           (ap (λ z. noted W (cond z (watch 0 false (falses os) (spell None [])) w) (notes W (no_verdict W) cs)) v)
           (inr v)
@@ -308,7 +314,7 @@ module _ (W : Script) (D : Side) (left : W.Cursor → ℕ) (Alike : W.Cursor →
   tick_claims os s l v sp cs h m g r y =
       plain (claimed_bus W D cs s) cs os s (Some l) (Some l) (watch 0 false v sp) (watch 0 false v sp) (ticks_of_turn - 1)
       (ticks_of_turn - 2) h (opened_bus W D cs (D.begin s) 0) Start g.armed
-      (claimed_starts W D cs s h g.timed g.living) refl (claimed_quiet W cs) refl refl start_no
+      (claimed_starts G cs s h g.timed g.living) refl (claimed_quiet W cs) refl refl start_no
       (ap (λ x. watch 0 false x sp) (marks_none W v cs)) (inl (omega arith))
       (begun (opened_bus W D cs (D.begin s) 0) os s l v sp cs 0 (ticks_of_turn - 2) refl (omega arith) (omega arith) m g r y)
 
@@ -324,18 +330,18 @@ module _ (W : Script) (D : Side) (left : W.Cursor → ℕ) (Alike : W.Cursor →
       go false x =
           let k : e < most_count = elim (cases_lt e most_count) [
             | inl z ↦ z
-            | inr z ↦ let y = opened_ends W cs e g.timed g.living z in cc
+            | inr z ↦ let y = opened_ends G cs e g.timed g.living z in cc
           ] in
           plain (opened_bus W D cs (D.begin s) e) cs os s (Some l) (Some l) (watch 0 false v sp) (watch 0 false v sp) n (n - 1) h
           (opened_bus W D cs (D.begin s) (e + 1)) SteadyHigh g.armed
-          (opened_stays W D cs (D.begin s) e h g.timed g.living x) refl (opened_quiet W e cs) refl refl high_no
+          (opened_stays G cs (D.begin s) e h g.timed g.living x) refl (opened_quiet W e cs) refl refl high_no
           (ap (λ x. watch 0 false x sp) (marks_none W v cs)) (inl (omega arith))
           (begun (opened_bus W D cs (D.begin s) (e + 1)) os s l v sp cs (e + 1) (n - 1) refl (omega arith) (omega arith) m g r y)
       go true x =
           plain (opened_bus W D cs (D.begin s) e) cs os s (Some l) (Some l) (watch 0 false v sp)
           (watch 1 false v (fallen sp.latched sp.letters)) n (ticks_of_letter * most_letters) h (low_bus W D false cs (D.begin s) 0 0) Fall
           g.armed
-          (opened_falls W D cs (D.begin s) e h g.timed g.living x) refl (opened_fall_quiet W e cs) refl refl fall_no
+          (opened_falls G cs (D.begin s) e h g.timed g.living x) refl (opened_fall_quiet W e cs) refl refl fall_no
           (ap (λ x. watch 1 false x (fallen sp.latched sp.letters)) (marks_none W v cs)) (inl (omega arith))
           (low (low_bus W D false cs (D.begin s) 0 0) os s l v (fallen sp.latched sp.letters) cs 0 most_letters (D.begin s) false 0 0
           (ticks_of_letter * most_letters) refl (omega arith) (omega arith) (omega arith)
@@ -346,12 +352,12 @@ module _ (W : Script) (D : Side) (left : W.Cursor → ℕ) (Alike : W.Cursor →
       (each : (x : Symbol) (p : W.Cursor) → is_lost W (j x p) ≡ lo x) (cs : List (Cell W)) (k r : ℕ) (s : D.S) →
       v ≡ marked W f l cs → Crew W l os cs → Slots l s0 k r (cursors W cs) s →
       ((x : Symbol) → lo x ≡ true → f x ≡ false) → ((x : Symbol) → lo x ≡ true → x ≡ lead W (cursors W cs) → ⊥) →
-      (i : ℕ) → slice_index_or (notes W j cs) i quiet ≡ lost → Loses W D left (Some l) s0 v (watch (suc k) true v sp) i
+      (i : ℕ) → slice_index_or (notes W j cs) i quiet ≡ lost → Loses G (Some l) s0 v (watch (suc k) true v sp) i
   loses_here sp s0 l os v f lo j each cs k r s m g run new behind i e =
       let a = note_at W j cs i e in
       let o : lo (W.symbol a.0) ≡ true = sym (each (W.symbol a.0) a.0) ∙ ap (is_lost W) a.2 in
       let q = contender W l cs g.within i a.0 a.1 in
-      let x = loses_at W D left Alike laws l (D.begin s0) k r (cursors W cs) s run i q.0 a.0 q.1 a.1
+      let x = loses_at G l (D.begin s0) k r (cursors W cs) s run i q.0 a.0 q.1 a.1
       (λ z. behind (W.symbol a.0) o (rank_inj (W.symbol a.0) (lead W (cursors W cs)) (sym z))) in
       record {
         turn = l;
@@ -374,24 +380,24 @@ module _ (W : Script) (D : Side) (left : W.Cursor → ℕ) (Alike : W.Cursor →
   tick_low os s0 l v sp cs k r s d f e n h b b' c m g run y = go (held W D cs f e) refl
     where
       some_r : 1 ≤ r
-      some_r = some_left W D left Alike laws (begins W l) (D.begin s0) k r cs s run g.living
+      some_r = some_left G (begins W l) (D.begin s0) k r cs s run g.living
 
       go : (x : Bool) → held W D cs f e ≡ x → Real (low_bus W D d cs s f e) os s0 (Some l) (watch (suc k) false v sp) n h
       go true x =
           let z = some_r in
           let k' : e < most_count = elim (cases_lt e most_count) [
             | inl z ↦ z
-            | inr z ↦ let q = low_ends W cs e g.timed z in absurd (grind (arith, tells))
+            | inr z ↦ let q = low_ends G cs e g.timed z in absurd (grind (arith, tells))
           ] in
           plain (low_bus W D d cs s f e) cs os s0 (Some l) (Some l) (watch (suc k) false v sp) (watch (suc k) false v sp) n (n - 1) h
           (low_bus W D (carries W D cs s) cs s f (e + 1)) SteadyLow g.armed
-          (low_stays W D d cs s f e h x) refl (lowered_quiet W e cs) refl refl low_no
+          (low_stays G d cs s f e h x) refl (lowered_quiet W e cs) refl refl low_no
           (ap (λ x. watch (suc k) false x sp) (marks_none W v cs)) (inl (omega arith))
           (low (low_bus W D (carries W D cs s) cs s f (e + 1)) os s0 l v sp cs k r s (carries W D cs s) f (e + 1) (n - 1) refl b
           (omega arith) (omega arith) m g run y)
       go false x =
           let z = some_r in
-          let q = low_rises W D d cs s f e h x in
+          let q = low_rises G d cs s f e h x in
           let o = carries W D cs s in
           let ks = notes W (early W o) cs in
           let u = low_bus W D d cs s f e in
@@ -405,7 +411,7 @@ module _ (W : Script) (D : Side) (left : W.Cursor → ℕ) (Alike : W.Cursor →
           (tells_none W (early W o) (early_mute W o) cs ∙ ap nobody (sym g.armed))
           (loses_here (spell (Some o) sp.letters) s0 l os v never (early_lost o) (early W o) (early_is W o) cs k r s m.0 g run (λ x e. refl)
           (λ x e z. early_behind D x s o e (ap (λ y. heard D y s) z
-          ∙ run_carries W D left Alike laws (begins W l) (D.begin s0) k r cs s run)))
+          ∙ run_carries G (begins W l) (D.begin s0) k r cs s run)))
           (inl (omega arith))
           (rose (fresh_bus W D o cs s) os s0 l (marked W (early_lost o) l cs) (spell (Some o) sp.letters) cs k r s o
           (ticks_of_letter * r - ticks_of_low) refl refl (omega arith) (refl, ap (λ x. spell (Some o) x.letters) m.1) g run y))
@@ -414,13 +420,13 @@ module _ (W : Script) (D : Side) (left : W.Cursor → ℕ) (Alike : W.Cursor →
       (c : Option Bool) (e n h : ℕ) → h ≤ most_count →
       not (some W holds cs || D.pulls s) ≡ d → e ≤ most_count → n + ticks_of_low + 1 + e ≡ ticks_of_letter * suc r →
       (v ≡ marked W never l cs) × (fallen sp.latched sp.letters ≡ spell None
-      (text l s0 (suc k))) × Spelt W D (begins W l) (D.begin s0) (suc k) sp s → Crew W l os cs →
+      (text l s0 (suc k))) × Spelt G (begins W l) (D.begin s0) (suc k) sp s → Crew W l os cs →
       Slots l s0 (suc k) r (cursors W (advance W (unwrap_or c true) cs)) (taken D c s) → Fits_in os l s0 →
       Real (settled_bus W D d c cs s e) os s0 (Some l) (watch (suc k) true v sp) n h
   tick_high os s0 l v sp cs k r s d c e n h hh j o z m g run y = go (any_scl W (looks W (settled W e) cs)) refl
     where
       some_r : 1 ≤ r
-      some_r = some_left W D left Alike laws (begins W l) (D.begin s0) (suc k) r (advance W (unwrap_or c true) cs) (taken D c s) run
+      some_r = some_left G (begins W l) (D.begin s0) (suc k) r (advance W (unwrap_or c true) cs) (taken D c s) run
           (alive_advance W (unwrap_or c true) cs ∙ g.living)
 
       go : (x : Bool) → any_scl W (looks W (settled W e) cs) ≡ x →
@@ -428,12 +434,12 @@ module _ (W : Script) (D : Side) (left : W.Cursor → ℕ) (Alike : W.Cursor →
       go false x =
           let k' : e < most_count = elim (cases_lt e most_count) [
             | inl z ↦ z
-            | inr z ↦ let y = settled_ends W cs e g.timed g.living z in cc
+            | inr z ↦ let y = settled_ends G cs e g.timed g.living z in cc
           ] in
           let rr = some_r in
           plain (settled_bus W D d c cs s e) cs os s0 (Some l) (Some l) (watch (suc k) true v sp) (watch (suc k) true v sp) n (n - 1) h
           (settled_bus W D d c cs s (e + 1)) SteadyHigh g.armed
-          (settled_stays W D d c cs s e h g.timed j x) (steady d)
+          (settled_stays G d c cs s e h g.timed j x) (steady d)
           (ap (λ ev. verdicts W (looks W (settled W e) cs) (shown ev (counted_bit c ev) false)) (steady d) ∙ settled_quiet W e cs) refl refl
           high_no (ap (λ x. watch (suc k) true x sp) (marks_none W v cs)) (inl (omega arith))
           (high (settled_bus W D d c cs s (e + 1)) os s0 l v sp cs k r s d c (e + 1) (n - 1) refl j (omega arith) (omega arith) m g run y)
@@ -442,7 +448,7 @@ module _ (W : Script) (D : Side) (left : W.Cursor → ℕ) (Alike : W.Cursor →
           plain (settled_bus W D d c cs s e) cs os s0 (Some l) (Some l) (watch (suc k) true v sp)
           (watch (suc (suc k)) false v (fallen sp.latched sp.letters)) n (ticks_of_letter * r) h
           (low_bus W D d (advance W b cs) (taken D c s) (asked c h) 0) Fall g.armed
-          (settled_falls W D d c cs s e h g.timed j x) refl (settled_fall_quiet W c e cs) refl refl fall_no
+          (settled_falls G d c cs s e h g.timed j x) refl (settled_fall_quiet W c e cs) refl refl fall_no
           (ap (λ x. watch (suc (suc k)) false x (fallen sp.latched sp.letters)) (marks_none W v cs)) (inl (omega arith))
           (low (low_bus W D d (advance W b cs) (taken D c s) (asked c h) 0) os s0 l v (fallen sp.latched sp.letters) (advance W b cs)
           (suc k) r (taken D c s) d (asked c h) 0 (ticks_of_letter * r) refl
@@ -467,10 +473,10 @@ module _ (W : Script) (D : Side) (left : W.Cursor → ℕ) (Alike : W.Cursor →
     led_by j e = leads W cs g.living ∙ e
 
     spelt : (c : Letter) → letter D (lead W (cursors W cs)) s ≡ c → text l s0 k ++ (c ∷ []) ≡ text l s0 (suc k)
-    spelt c e = spells W D left Alike (begins W l) (D.begin s0) k (suc r) (cursors W cs) s c run e
+    spelt c e = spells G (begins W l) (D.begin s0) k (suc r) (cursors W cs) s c run e
 
     loses_late : (sp' : Spell) (b : Bool) (j : ℕ) → v ≡ marked W (early_lost b) l cs → least W cs ≡ j → (j ≡ 2 → b ≡ true) →
-        (i : ℕ) → slice_index_or (notes W (late W j) cs) i quiet ≡ lost → Loses W D left (Some l) s0 v (watch (suc k) true v sp') i
+        (i : ℕ) → slice_index_or (notes W (late W j) cs) i quiet ≡ lost → Loses G (Some l) s0 v (watch (suc k) true v sp') i
     loses_late sp' b j m e again =
         loses_here sp' s0 l os v (early_lost b) (late_lost j) (late W j) (late_is W j) cs k (suc r) s m g run
         (λ x a. late_new j x b again a) (λ x a p. late_behind j x a (ap rank p ∙ led_by j e))
@@ -509,12 +515,12 @@ module _ (W : Script) (D : Side) (left : W.Cursor → ℕ) (Alike : W.Cursor →
         )
         (crew_stay W j l os cs e j4 g)
         (subst (λ x. Slots l s0 (suc k) r (cursors W (advance W x (stay W j cs))) (D.bit s x)) c
-        (run_bit W D left Alike laws (begins W l) (D.begin s0) k r cs s j run g.living e j1 j2)) y)))
+        (run_bit G (begins W l) (D.begin s0) k r cs s j run g.living e j1 j2)) y)))
       where
         spells_on : fallen sp.latched sp.letters ≡ spell None (text l s0 (suc k))
         spells_on = ap (λ x. fallen x.latched x.letters) m.1 ∙ ap (spell None) (spelt (bit_letter b)
             (letter_bit D (lead W (cursors W cs)) s (λ z. j1 (sym (led_by j e) ∙ z)) (λ z. j2 (sym (led_by j e) ∙ z))
-            ∙ ap bit_letter (run_carries W D left Alike laws (begins W l) (D.begin s0) k (suc r) cs s run ∙ c)))
+            ∙ ap bit_letter (run_carries G (begins W l) (D.begin s0) k (suc r) cs s run ∙ c)))
 
     fresh_again : carries W D cs s ≡ true → least W cs ≡ 2 →
         tick W D (fresh_bus W D true cs s) h ≡ settled_bus W D false None (stay W 2 cs) (D.begin s) 0 →
@@ -536,11 +542,11 @@ module _ (W : Script) (D : Side) (left : W.Cursor → ℕ) (Alike : W.Cursor →
             slots_gone = suc k;
             most = omega arith;
             letters = spells_on;
-            side = ap (λ x. x.side) (run_again W D left Alike laws (begins W l) (D.begin s0) k r cs s run g.living e).runs;
+            side = ap (λ x. x.side) (run_again G (begins W l) (D.begin s0) k r cs s run g.living e).runs;
           },
         ) (crew_stay W 2 l os cs e (omega arith) g)
         (subst (λ x. Slots l s0 (suc k) r (cursors W (advance W x (stay W 2 cs))) (D.begin s)) c
-        (run_again W D left Alike laws (begins W l) (D.begin s0) k r cs s run g.living e)) y))
+        (run_again G (begins W l) (D.begin s0) k r cs s run g.living e)) y))
       where
         sp' : Spell
         sp' = spell None (sp.letters ++ (restart ∷ []))
@@ -555,7 +561,7 @@ module _ (W : Script) (D : Side) (left : W.Cursor → ℕ) (Alike : W.Cursor →
         by_tick (fresh_bus W D false cs s) os s0 (Some l) before n h (free_bus W D (finished W cs) (D.finish s)) (notes W (late W 1) cs) q f
         (record {
           due = ticks_of_turn;
-          stands = idle (free_bus W D (finished W cs) (D.finish s)) (disarm os ts) (leader_side W D left first (D.begin s0))
+          stands = idle (free_bus W D (finished W cs) (D.finish s)) (disarm os ts) (leader_side G first (D.begin s0))
               (sees W before os (Some l) Stop (notes W (late W 1) cs)) (finished W cs)
               (ap (free_bus W D (finished W cs)) (sym side)) (ap₂ disarm g.armed (sym told_is) ∙ sym (armeds_finished W cs))
               (timed_finished W cs g.timed) (holding_finished W cs) rested
@@ -566,8 +572,8 @@ module _ (W : Script) (D : Side) (left : W.Cursor → ℕ) (Alike : W.Cursor →
               let z : true ≡ false = sym (ap (is_lost W) w.2) ∙ (late_is W 1 (W.symbol w.0) w.0 ∙ none_at_stop (W.symbol w.0)) in cc;
           stops = λ st l' el i p a.
               let z : l ≡ l' = cc in
-              subst (λ x. Stopped W D left x s0 v (tellings W (notes W (late W 1) cs)) i p) z (stopped i p (ap (λ x. at x i) z ∙ a));
-          spelled = λ st l' el. let z : l ≡ l' = cc in subst (λ x. Spelled W D left x s0 (sp.letters ++ (stop ∷ []))) z spells_all;
+              subst (λ x. Stopped G x s0 v (tellings W (notes W (late W 1) cs)) i p) z (stopped i p (ap (λ x. at x i) z ∙ a));
+          spelled = λ st l' el. let z : l ≡ l' = cc in subst (λ x. Spelled G x s0 (sp.letters ++ (stop ∷ []))) z spells_all;
           falls = inl (let c = somebody_told W cs e in let d = ap count told_is in omega arith);
         })
       where
@@ -575,45 +581,45 @@ module _ (W : Script) (D : Side) (left : W.Cursor → ℕ) (Alike : W.Cursor →
         stops_here = led_by 1 e
 
         first : Option W.Task
-        first = leader W D left l (D.begin s0)
+        first = leader G l (D.begin s0)
 
         ts : List (Option W.Outcome)
-        ts = outcomes W D left l first (D.begin s0)
+        ts = outcomes G l first (D.begin s0)
 
         told_is : ending W (cursors W cs) ≡ ts
-        told_is = told_at_stop W D left Alike laws l (D.begin s0) k (suc r) cs s run stops_here g.within
+        told_is = told_at_stop G l (D.begin s0) k (suc r) cs s run stops_here g.within
 
-        stopped : (i : ℕ) (p : W.Task) → at l i ≡ Some p → Stopped W D left l s0 v (tellings W (notes W (late W 1) cs)) i p
+        stopped : (i : ℕ) (p : W.Task) → at l i ≡ Some p → Stopped G l s0 v (tellings W (notes W (late W 1) cs)) i p
         stopped i p a =
-            let w : is_some (at (tellings W (notes W (late W 1) cs)) i) ≡ wins W D left p first (D.begin s0) =
-            ap (λ x. is_some (at x i)) (tells_end W cs ∙ told_is) ∙ outcome_at W D left first (D.begin s0) l i p a in
+            let w : is_some (at (tellings W (notes W (late W 1) cs)) i) ≡ wins G p first (D.begin s0) =
+            ap (λ x. is_some (at x i)) (tells_end W cs ∙ told_is) ∙ outcome_at G first (D.begin s0) l i p a in
             record {
               unmarked = ap (λ x. is_some (at x i)) (tells_end W cs) ∙ tells_unmarked W l cs g.within ev i p a
                   ∙ ap (λ x. not (slice_index_or x i false)) (sym m.0);
-              least = λ h. wins_least W D left Alike laws l (D.begin s0) k (suc r) (cursors W cs) s run i p a (sym w ∙ h);
-              wins = λ h. w ∙ least_wins W D left Alike laws l (D.begin s0) k (suc r) (cursors W cs) s run i p a h;
+              least = λ h. wins_least G l (D.begin s0) k (suc r) (cursors W cs) s run i p a (sym w ∙ h);
+              wins = λ h. w ∙ least_wins G l (D.begin s0) k (suc r) (cursors W cs) s run i p a h;
             }
 
         -- a contender that shows the stop, and the leader
         one : (i : ℕ) × ((q : W.Task) × (at l i ≡ Some q))
         one = let a = alive_at W cs g.living in (a.0, contender W l cs g.within a.0 a.1.0 a.1.1)
 
-        led : (x : W.Task) × (first ≡ Some x) × (text l s0 (suc k) ≡ task_string W D left x (D.begin s0))
-        led = stop_spells W D left Alike laws l (D.begin s0) k (suc r) (cursors W cs) s run stops_here one.0 one.1.0 one.1.1
+        led : (x : W.Task) × (first ≡ Some x) × (text l s0 (suc k) ≡ task_string G x (D.begin s0))
+        led = stop_spells G l (D.begin s0) k (suc r) (cursors W cs) s run stops_here one.0 one.1.0 one.1.1
 
-        rested : Rest (leader_side W D left first (D.begin s0))
-        rested = let j = leader_in W D left l (D.begin s0) led.0 led.1 in
-            subst (λ o. Rest (leader_side W D left o (D.begin s0))) (sym led.1) (plays.rests led.0 s0 (y.turn j.0 led.0 j.1) y.rest)
+        rested : Rest (leader_side G first (D.begin s0))
+        rested = let j = leader_in G l (D.begin s0) led.0 led.1 in
+            subst (λ o. Rest (leader_side G o (D.begin s0))) (sym led.1) (plays.rests led.0 s0 (y.turn j.0 led.0 j.1) y.rest)
 
-        spells_all : Spelled W D left l s0 (sp.letters ++ (stop ∷ []))
+        spells_all : Spelled G l s0 (sp.letters ++ (stop ∷ []))
         spells_all = record {
           least = led.0;
           leads = led.1;
           whole = ap (λ x. x.letters ++ (stop ∷ [])) m.1 ∙ spelt stop (letter_stop D (lead W (cursors W cs)) s stops_here) ∙ led.2;
         }
 
-        side : leader_side W D left first (D.begin s0) ≡ D.finish s
-        side = stop_side W D left Alike laws l (D.begin s0) k (suc r) (cursors W cs) s run stops_here one.0 one.1.0 one.1.1
+        side : leader_side G first (D.begin s0) ≡ D.finish s
+        side = stop_side G l (D.begin s0) k (suc r) (cursors W cs) s run stops_here one.0 one.1.0 one.1.1
 
     -- b is what the slot carries, so it is what the least symbol shows
     rises_as : (b c : Bool) → carries W D cs s ≡ b → carries W D cs s ≡ c → Rises c → Rises b
@@ -621,25 +627,25 @@ module _ (W : Script) (D : Side) (left : W.Cursor → ℕ) (Alike : W.Cursor →
 
     rises : (b : Bool) → carries W D cs s ≡ b → Shape W D cs s → (j : ℕ) → least W cs ≡ j → j ≤ 4 → Rises b
     rises b c q zero e j4 =
-        let x = fresh_zero W D cs s h g.timed q e in
-        let w = shaped W D 0 cs s (omega arith) e q in
+        let x = fresh_zero G cs s h g.timed q e in
+        let w = shaped G 0 cs s (omega arith) e q in
         let o = holds_zero W cs e in
         rises_as b false c x.0 (fresh_bit false 0 x.0 e j4 (omega arith) (omega arith) x.1 x.2 (cc)
         (every W (λ x. (0 ≤ rank x) × (rank x ≤ 3)) (λ x. (early_lost false x || late_lost 0 x) ≡ not (eqb (rank x) 0))
         (slot_low 0 (omega arith)) cs w.0))
     rises b c q (suc zero) e j4 =
-        let x = fresh_end W D cs s h g.timed q e in
-        let w = shaped W D 1 cs s (omega arith) e q in
+        let x = fresh_end G cs s h g.timed q e in
+        let w = shaped G 1 cs s (omega arith) e q in
         rises_as b false c x.0 (fresh_stop e x.1 x.2 w.0)
     rises b c q (suc (suc zero)) e j4 =
-        let x = fresh_restart W D cs s h g.timed q e in
-        let w = shaped W D 2 cs s (omega arith) e q in
+        let x = fresh_restart G cs s h g.timed q e in
+        let w = shaped G 2 cs s (omega arith) e q in
         rises_as b true c x.0 (fresh_again x.0 e x.1 x.2
         (every W (λ x. (2 ≤ rank x) × (rank x ≤ 3)) (λ x. (early_lost true x || late_lost 2 x) ≡ not (eqb (rank x) 2))
         (slot_high 2 (omega arith) (omega arith)) cs w.0))
     rises b c q (suc (suc (suc zero))) e j4 =
-        let x = fresh_one W D cs s h g.timed q e in
-        let w = shaped W D 3 cs s (omega arith) e q in
+        let x = fresh_one G cs s h g.timed q e in
+        let w = shaped G 3 cs s (omega arith) e q in
         let f = w.1 in
         let o = holds_not W 3 cs (omega arith) e in
         rises_as b true c x.0 (fresh_bit true 3 x.0 e j4 (omega arith) (omega arith) x.1 x.2 (cc)
@@ -647,7 +653,7 @@ module _ (W : Script) (D : Side) (left : W.Cursor → ℕ) (Alike : W.Cursor →
         (slot_high 3 (omega arith) (omega arith)) cs w.0))
     rises b c q (suc (suc (suc (suc zero)))) e j4 =
         let d = not (D.pulls s) in
-        let x = fresh_listen W D d cs s h g.timed e refl in
+        let x = fresh_listen G d cs s h g.timed e refl in
         let w = every W (λ x. 4 ≤ rank x) (λ x. rank x ≡ 4) (λ x h. omega (arith, rank_top x)) cs (least_below W 4 cs (omega arith)) in
         let o = holds_not W 4 cs (omega arith) e in
         rises_as b d c x.0 (fresh_bit d 4 x.0 e j4 (omega arith) (omega arith) x.1 x.2 (cc)
@@ -659,9 +665,9 @@ module _ (W : Script) (D : Side) (left : W.Cursor → ℕ) (Alike : W.Cursor →
       (v ≡ marked W (early_lost b) l cs) × (sp ≡ spell (Some b) (text l s0 k)) → Crew W l os cs →
       Slots l s0 k r (cursors W cs) s → Fits_in os l s0 → Real (fresh_bus W D b cs s) os s0 (Some l) (watch (suc k) true v sp) n h
   tick_rises os s0 l v sp cs k zero s b n h c z m g run y =
-      let a = some_left W D left Alike laws (begins W l) (D.begin s0) k 0 cs s run g.living in absurd (omega arith)
+      let a = some_left G (begins W l) (D.begin s0) k 0 cs s run g.living in absurd (omega arith)
   tick_rises os s0 l v sp cs k (suc r) s b n h c z m g run y =
-      rises os l s0 v sp cs k r s n h z g run y b c (run_shape W D left Alike laws (begins W l) (D.begin s0) k (suc r) cs s run g.living)
+      rises os l s0 v sp cs k r s n h z g run y b c (run_shape G (begins W l) (D.begin s0) k (suc r) cs s run g.living)
       (least W cs) refl (alive_least W cs g.living) m
 
   -- a tick in any phase

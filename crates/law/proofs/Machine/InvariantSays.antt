@@ -13,6 +13,7 @@ use Rattle.law.proofs.Machine.PhasesOfSlot.{claimed_bus, opened_bus, low_bus, fr
 use Rattle.law.proofs.Machine.BookOfMachine.{Tasks, armeds, pulling}
 use Rattle.law.proofs.Machine.CellsOfTurn.{marked, never, pulls_nothing, armeds_looks}
 use Rattle.law.proofs.Machine.Invariant.{Stands, idle, claims, begun, low, rose, high, fresh_keeps}
+use Rattle.law.proofs.Machine.Game.{Game}
 
 module _ (W : Script) where
   rise_out : (m : MasterModel W) (p : W.Cursor) (x : Symbol) (b : Bool) → early_lost b x ≡ true →
@@ -23,10 +24,15 @@ module _ (W : Script) where
       ((g m p).pulls.scl || (g m p).pulls.sda) ≡ false
   never_out g m p h = cc
 
-module _ (W : Script) (D : Side) (left : W.Cursor → ℕ) (Alike : W.Cursor → W.Cursor → Type 0)
-    (Fits : W.Task → Type 0) (Rest : D.S → Type 0) where
+module _ (G : Game) (Fits : G.script.Task → Type 0) (Rest : G.side.S → Type 0) where
+  abbrev W : Script
+  W = G.script
+
+  abbrev D : Side
+  D = G.side
+
   pub stands_armed : (u : Bus W D) (os : Tasks W) (s : D.S) (t : Option (Tasks W)) (w : Monitor) (n : ℕ) →
-      Stands W D left Alike Fits Rest u os s t w n → armeds W u.masters ≡ os
+      Stands G Fits Rest u os s t w n → armeds W u.masters ≡ os
   stands_armed _ _ _ _ _ _ (idle u os s w cs e a t g q y) =
       ap (λ x. armeds W x.masters) e ∙ armeds_looks W (idling W) (λ m p. refl) cs ∙ sym a
   stands_armed _ _ _ _ _ _ (claims u os s l v sp cs e m g q y) =
@@ -41,7 +47,7 @@ module _ (W : Script) (D : Side) (left : W.Cursor → ℕ) (Alike : W.Cursor →
       ap (λ x. armeds W x.masters) e ∙ armeds_looks W (settled W f) (λ m p. refl) cs ∙ sym g.armed
 
   pub stands_side : (u : Bus W D) (os : Tasks W) (s : D.S) (t : Option (Tasks W)) (w : Monitor) (n : ℕ) →
-      Stands W D left Alike Fits Rest u os s t w n → u.wire.busy ≡ false → u.side ≡ s
+      Stands G Fits Rest u os s t w n → u.wire.busy ≡ false → u.side ≡ s
   stands_side u os s t w n h k = grind arith
 
   outs : (u u' : Bus W D) (f : Symbol → Bool) (g : MasterModel W → W.Cursor → MasterModel W)
@@ -52,7 +58,7 @@ module _ (W : Script) (D : Side) (left : W.Cursor → ℕ) (Alike : W.Cursor →
       ∙ pulls_nothing W f g each l cs i (sym (ap (λ x. slice_index_or x i false) m) ∙ h)
 
   pub stands_out : (u : Bus W D) (os : Tasks W) (s : D.S) (t : Option (Tasks W)) (w : Monitor) (n : ℕ) →
-      Stands W D left Alike Fits Rest u os s t w n →
+      Stands G Fits Rest u os s t w n →
       is_some t ≡ true → (i : ℕ) → slice_index_or w.marked i false ≡ true → pulling W u.masters i ≡ false
   stands_out _ _ _ _ _ _ (idle u os s w cs e a t g q y) h i k = cc
   stands_out _ _ _ _ _ _ (claims u os s l v sp cs e m g q y) h i k =
@@ -67,5 +73,5 @@ module _ (W : Script) (D : Side) (left : W.Cursor → ℕ) (Alike : W.Cursor →
       outs u (settled_bus W D d c cs s f) never (settled W f) (never_out W (settled W f)) l cs v i e refl m.0 x
 
   pub stands_left : (u : Bus W D) (os : Tasks W) (s : D.S) (t : Option (Tasks W)) (w : Monitor) (n : ℕ) →
-      Stands W D left Alike Fits Rest u os s t w n → n ≤ ticks_of_turn
+      Stands G Fits Rest u os s t w n → n ≤ ticks_of_turn
   stands_left u os s t w n h = grind arith

@@ -1,4 +1,4 @@
--- Symbols by their ranks, the leading symbol, and who is kept.
+-- The leading symbol is the least shown, somebody shows it, and kept is who does.
 use Rattle.std.proofs.Common.{◌≡◌, ℕ, zero, suc, ◌≤◌, Bool, ◌⊎◌, List, [], ◌∷◌, Some, None, Option, sym, refl, ◌∙◌, inl, inr, arith}
 use Rattle.std.proofs.Math.ListN.{get_or-map}
 use Rattle.std.proofs.lemmas.Bool.Decides.{nat_tests}
@@ -21,7 +21,8 @@ pub lower_either : (x y : Symbol) → (lower x y ≡ x) ⊎ (lower x y ≡ y)
 lower_either x y = grind arith
 
 module _ (W : Script) where
-  pub lead_least : (l : List (Option W.Cursor)) (i : ℕ) (p : W.Cursor) → at l i ≡ Some p → rank (lead W l) ≤ rank (W.symbol p)
+  pub lead_least : (l : List (Option W.Cursor)) (i : ℕ) (p : W.Cursor) → at l i ≡ Some p →
+      rank (lead W l) ≤ rank (W.symbol p)
   lead_least [] i p e = cc
   lead_least (None ∷ l) zero p e = cc
   lead_least (None ∷ l) (suc i) p e = lead_least l i p e
@@ -40,7 +41,8 @@ module _ (W : Script) where
     | inr e ↦ elim (lead_shown l) [ inl d ↦ inl (e ∙ d) | inr h ↦ inr (suc h.0, (h.1.0, h.1.1, h.1.2 ∙ sym e)) ]
   ]
 
-  pub at_keep : (x : Symbol) (b : Bool) (l : List (Option W.Cursor)) (i : ℕ) → at (keep_all W x b l) i ≡ keep W x b (at l i)
+  pub at_keep : (x : Symbol) (b : Bool) (l : List (Option W.Cursor)) (i : ℕ) →
+      at (keep_all W x b l) i ≡ keep W x b (at l i)
   at_keep x b l i = get_or-map (keep W x b) l i None
 
   pub record Kept (x : Symbol) (b : Bool) (o : Option W.Cursor) (r : W.Cursor) : Type 0 where

@@ -1,5 +1,6 @@
 -- The phases of a slot: the whole bus as a function of the cells, the side and the ticks gone by.
-use Rattle.std.proofs.Common.{◌≡◌, ℕ, ◌-◌, ◌≤◌, min, Bool, true, false, cond, not, ◌||◌, eqb, ltb, ◌⊎◌, List, [], ◌∷◌, Some, None, Option, map}
+use Rattle.std.proofs.Common.{◌≡◌, ℕ, ◌-◌, ◌≤◌, min, Bool, true, false, cond, not, ◌||◌, eqb, ltb, ◌⊎◌, List, [], ◌∷◌}
+use Rattle.std.proofs.Common.{Some, None, Option, map}
 use Rattle.master.specs.declared.arming.Arming.{Arming}
 use Rattle.master.specs.declared.arming.Arming.TheVariants.{Unarmed, Armed}
 use Rattle.master.specs.declared.symbol.Symbol.{Symbol}
@@ -7,7 +8,8 @@ use Rattle.master.specs.declared.symbol.Symbol.TheVariants.{Zero, One, Listen, R
 use Rattle.wire.specs.declared.event.Event.{Event}
 use Rattle.wire.specs.declared.levels.Levels.{Levels}
 use Rattle.wire.specs.declared.wire.Signal.{Signal}
-use Rattle.master.specs.MasterState.{MasterModel, idle, start_pending, sending, VerdictModel, quiet, lost, told, with_stage, rise_step, new_master}
+use Rattle.master.specs.MasterState.{MasterModel, idle, start_pending, sending, VerdictModel, quiet, lost, told}
+use Rattle.master.specs.MasterState.{with_stage, rise_step, new_master}
 use Rattle.master.specs.Script.{Script}
 use Rattle.master.specs.Symbol.{pulls_sda}
 use Rattle.transfer.specs.Limits.{most_count}
@@ -62,7 +64,8 @@ late_lost n Stop = eqb n 0
 late_lost n One = eqb n 2
 
 module _ (W : Script) where
-  -- a master of one turn: out of it, or live with its cursor for this slot. Of the master only low, high and arming count
+  -- a master of one turn: out of it, or live with its cursor for this slot;
+  -- of the master only low, high and arming count
   pub data Cell : Type 0 where
     out : MasterModel W → Cell
     live : MasterModel W → W.Cursor → Cell
@@ -215,7 +218,12 @@ module _ (W : Script) where
 
 module _ (W : Script) (D : Side) where
   abbrev pub bus : Bool → Bool → Bool → List (MasterModel W) → D.S → Option Bool → ℕ → Bus W D
-  bus c d y ms s k n = record { wire = record { last = lines c d; busy = y; latch = record { level = k } }; masters = ms; side = s; hold = n }
+  bus c d y ms s k n = record {
+    wire = record { last = lines c d; busy = y; latch = record { level = k } };
+    masters = ms;
+    side = s;
+    hold = n;
+  }
 
   abbrev pub free_bus : List (Cell W) → D.S → Bus W D
   free_bus cs s = bus true true false (looks W (idling W) cs) s None 0

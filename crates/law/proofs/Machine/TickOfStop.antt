@@ -7,12 +7,13 @@ use Rattle.master.specs.declared.symbol.Symbol.{Symbol}
 use Rattle.master.specs.Script.{Script}
 use Rattle.law.proofs.FarSide.{Side, heard}
 use Rattle.law.proofs.Machine.PhasesOfSlot.{rank, early_lost, Cell, out, live, notes, late, cursors, Every, least, finished}
-use Rattle.law.proofs.Machine.Arbitration.{at, lead, keep, Laws}
+use Rattle.law.proofs.Machine.Arbitration.{at, lead, keep}
 use Rattle.law.proofs.Machine.BookOfMachine.{Tasks, count, disarm_one, disarm, tellings, begins, task_outcome, leader, wins, outcomes}
 use Rattle.law.proofs.Machine.LeadingSymbol.{rank_inj}
 use Rattle.law.proofs.Machine.CellsOfTurn.{cell_armeds, Holding, Within, marked}
 use Rattle.law.proofs.Machine.SlotsOfTurn.{Run}
 use Rattle.law.proofs.Machine.SlotsTellLeast.{stop_wins, stop_names}
+use Rattle.law.proofs.Machine.Game.{Game}
 
 count_one : {A B : Type 0} (v : Bool) (a : Option A) (o : B) (l os : List (Option A)) (ts : List (Option B)) → is_some a ≡ true →
     count os + count ts ≡ count l →
@@ -87,12 +88,18 @@ module _ (W : Script) where
   tells_unmarked (o ∷ l) (live m p ∷ cs) h e zero q a = told_unmarked o p (W.symbol p) h.0 e.0
   tells_unmarked (o ∷ l) (c ∷ cs) h e (suc i) q a = grind (arith, tells_unmarked l cs)
 
-module _ (W : Script) (D : Side) (left : W.Cursor → ℕ) where
+module _ (G : Game) where
+  abbrev W : Script
+  W = G.script
+
+  abbrev D : Side
+  D = G.side
+
   -- one by one
   outcomes_are : (q : Option W.Task) (s : D.S) (l : Tasks W) (cs : List (Cell W)) → Within W l cs →
       ((i : ℕ) (p : W.Task) → at l i ≡ Some p →
-      names W (at (cursors W cs) i) ≡ cond (wins W D left p q s) (Some (task_outcome W D left p s)) None) →
-      ending W (cursors W cs) ≡ outcomes W D left l q s
+      names W (at (cursors W cs) i) ≡ cond (wins G p q s) (Some (task_outcome G p s)) None) →
+      ending W (cursors W cs) ≡ outcomes G l q s
   outcomes_are q s [] [] h each = refl
   outcomes_are q s [] (c ∷ cs) h each = absurd h
   outcomes_are q s (o ∷ l) [] h each = absurd h
@@ -102,48 +109,47 @@ module _ (W : Script) (D : Side) (left : W.Cursor → ℕ) where
   outcomes_are q s (Some p ∷ l) (live m r ∷ cs) h each = ap₂ ◌∷◌ (each 0 p refl) (outcomes_are q s l cs h.1 (λ i p e. each (suc i) p e))
 
   pub outcome_at : (q : Option W.Task) (s : D.S) (l : Tasks W) (i : ℕ) (p : W.Task) → at l i ≡ Some p →
-      is_some (at (outcomes W D left l q s) i) ≡ wins W D left p q s
+      is_some (at (outcomes G l q s) i) ≡ wins G p q s
   outcome_at q s [] i p e = cc
   outcome_at q s (None ∷ l) zero p e = cc
-  outcome_at q s (Some r ∷ l) zero p e = let z : r ≡ p = cc in told_is (wins W D left r q s) (task_outcome W D left r s)
-      ∙ ap (λ x. wins W D left x q s) z
+  outcome_at q s (Some r ∷ l) zero p e = let z : r ≡ p = cc in told_is (wins G r q s) (task_outcome G r s)
+      ∙ ap (λ x. wins G x q s) z
   outcome_at q s (o ∷ l) (suc i) p e = grind (arith, outcome_at q s l)
 
-module _ (W : Script) (D : Side) (left : W.Cursor → ℕ) (Alike : W.Cursor → W.Cursor → Type 0) (laws : Laws W left Alike) where
   pub told_at_stop : (l : Tasks W) (s0 : D.S) (k r : ℕ) (cs : List (Cell W)) (s : D.S) →
-      Run W D left Alike (begins W l) s0 k r (cursors W cs) s → rank (lead W (cursors W cs)) ≡ 1 → Within W l cs →
-      ending W (cursors W cs) ≡ outcomes W D left l (leader W D left l s0) s0
+      Run G (begins W l) s0 k r (cursors W cs) s → rank (lead W (cursors W cs)) ≡ 1 → Within W l cs →
+      ending W (cursors W cs) ≡ outcomes G l (leader G l s0) s0
   told_at_stop l s0 k r cs s run stops h =
-      outcomes_are W D left (leader W D left l s0) s0 l cs h (λ i q a. each i q a (at (cursors W cs) i) refl)
+      outcomes_are (leader G l s0) s0 l cs h (λ i q a. each i q a (at (cursors W cs) i) refl)
     where
       each : (i : ℕ) (q : W.Task) → at l i ≡ Some q → (o : Option W.Cursor) → at (cursors W cs) i ≡ o →
-          names W o ≡ cond (wins W D left q (leader W D left l s0) s0) (Some (task_outcome W D left q s0)) None
-      each i q a o b = go o b (stop_wins W D left Alike laws l s0 k r (cursors W cs) s run stops i q a
+          names W o ≡ cond (wins G q (leader G l s0) s0) (Some (task_outcome G q s0)) None
+      each i q a o b = go o b (stop_wins G l s0 k r (cursors W cs) s run stops i q a
           ∙ ap (λ o. is_some (keep W (lead W (cursors W cs)) (heard D (lead W (cursors W cs)) s) o)) b)
         where
           go : (o : Option W.Cursor) → at (cursors W cs) i ≡ o →
-              wins W D left q (leader W D left l s0) s0 ≡ is_some (keep W (lead W (cursors W cs)) (heard D (lead W (cursors W cs)) s) o) →
-              names W o ≡ cond (wins W D left q (leader W D left l s0) s0) (Some (task_outcome W D left q s0)) None
-          go None b v = sym (ap (λ z. cond z (Some (task_outcome W D left q s0)) None) v)
+              wins G q (leader G l s0) s0 ≡ is_some (keep W (lead W (cursors W cs)) (heard D (lead W (cursors W cs)) s) o) →
+              names W o ≡ cond (wins G q (leader G l s0) s0) (Some (task_outcome G q s0)) None
+          go None b v = sym (ap (λ z. cond z (Some (task_outcome G q s0)) None) v)
           go (Some p) b v = two (eqb (rank (lead W (cursors W cs))) (rank (W.symbol p))) refl
             where
               wins_if : (y : Bool) → eqb (rank (lead W (cursors W cs))) (rank (W.symbol p)) ≡ y →
-                  wins W D left q (leader W D left l s0) s0 ≡ y
+                  wins G q (leader G l s0) s0 ≡ y
               wins_if y e = v ∙ ap (λ z. is_some (cond z (Some (W.next p (heard D (lead W (cursors W cs)) s))) None)) e
                   ∙ told_is y (W.next p (heard D (lead W (cursors W cs)) s))
 
               two : (y : Bool) → eqb (rank (lead W (cursors W cs))) (rank (W.symbol p)) ≡ y →
-                  names W (Some p) ≡ cond (wins W D left q (leader W D left l s0) s0) (Some (task_outcome W D left q s0)) None
+                  names W (Some p) ≡ cond (wins G q (leader G l s0) s0) (Some (task_outcome G q s0)) None
               two true e =
                   let g : rank (W.symbol p) ≡ rank (lead W (cursors W cs)) =
                   sym (eqb-true (rank (lead W (cursors W cs))) (rank (W.symbol p)) e) in
-                  let f = stop_names W D left Alike laws l s0 k r (cursors W cs) s run stops i q p a b
+                  let f = stop_names G l s0 k r (cursors W cs) s run stops i q p a b
                   (rank_inj (W.symbol p) (lead W (cursors W cs)) g) in
                   ap (λ z. cond z (Some (W.outcome p)) None) (eq-eqb (rank (W.symbol p)) 1 (g ∙ stops))
                   ∙ ap (λ z. Some (W.outcome z)) (sym f)
-                  ∙ sym (ap (λ z. cond z (Some (task_outcome W D left q s0)) None) (wins_if true e))
+                  ∙ sym (ap (λ z. cond z (Some (task_outcome G q s0)) None) (wins_if true e))
               two false e =
                   let g : eqb (rank (W.symbol p)) 1 ≡ false = ne_eqb (rank (W.symbol p)) 1 (λ z. let y : true ≡ false = sym
                   (eq-eqb (rank (lead W (cursors W cs))) (rank (W.symbol p)) (stops ∙ sym z)) ∙ e in cc) in
                   ap (λ z. cond z (Some (W.outcome p)) None) g
-                  ∙ sym (ap (λ z. cond z (Some (task_outcome W D left q s0)) None) (wins_if false e))
+                  ∙ sym (ap (λ z. cond z (Some (task_outcome G q s0)) None) (wins_if false e))
