@@ -36,13 +36,13 @@ use Rattle.law.proofs.Alone.PlayedIsCarried.{opened_ports}
 use Rattle.law.proofs.Asked.UnmarkedAsAlone.{ForNow, StillIn as LawStillIn, carried_so_far}
 use Rattle.law.proofs.Asked.NotingBusAlongside.{ports_stay, Alongside, same_event, same_marks, same_told, asked_many, asked_noted, one_more, first_noting, Beside, beside}
 use Rattle.law.proofs.Bus.EveryUseLawful.{every_use_lawful, every_use_stands}
-use Rattle.law.proofs.Bus.BookAsMachine.{booked, contenders, contenders_legal, turn_if}
+use Rattle.law.proofs.Bus.BookAsMachine.{contenders, contenders_legal, turn_if}
 use Rattle.law.proofs.Bus.LawOfUse.{legal_at}
 use Rattle.law.proofs.Asked.DeviceMaps.{port_places, device_places, ports_to, devices_to, places_to, played_to, spelled_to, carried_devices, carried_outcome}
 use Rattle.law.proofs.Asked.NotesAreAsks.{longer_cancel, forgetting, after_these, length_noted, bare_unnoted, noted_again, noted_after, noted_by_after, noted_unheld, noted_placed, same_holds, with_notes}
 use Rattle.law.proofs.Asked.NothingAskedAtRest.{nothing_at_rest}
 use Rattle.law.proofs.Bus.TickAsMachine.{seen}
-use Rattle.law.proofs.Bus.UseKeepsInvariant.{StandsAt}
+use Rattle.law.proofs.Bus.UseKeepsInvariant.{seen_use, StandsAt}
 use Rattle.law.proofs.Asked.ToldTookItsSteps.{tells_own, tells_at_stop, devices_won}
 use Rattle.law.proofs.Bus.TransfersAsGame.{game}
 
@@ -177,8 +177,9 @@ module _ (hs : List HostBehaviour) (ds : List Behaviour) where
         place = acknowledge_at t k n
 
         abbrev goes_on : ForNow transfers (ports_side es) (seen hs es then.bus) (idle_ports es then.book.devices) then.watch t
-        goes_on = let b = booked hs es then.book in
-            carried_so_far (game es) IsLegal (Idle es) (seen hs es then.bus) b.armed b.side b.turn then.watch st.0 st.1 (contenders hs then.book.entries) (ap (λ v. turn_if v (contenders hs then.book.entries)) turn_too)
+        goes_on =
+            carried_so_far (game es) IsLegal (Idle es) (seen_use hs es then) st.0 st.1 (contenders hs then.book.entries)
+            (ap (λ v. turn_if v (contenders hs then.book.entries)) turn_too)
             i t (ap (λ b. slice_index_or (contenders hs b.entries) i None) same_book ∙ contends_too i t in_turn.0) (still_in i t in_turn)
 
         spelled : then.watch.spelled ≡ hears.so_far ++ (low ∷ [])

@@ -1,9 +1,8 @@
 -- A use of the bus, and beside it the use of the same bus over devices that note their steps: both go the same way, and since a turn opened the devices have noted what was asked in it.
-use Rattle.std.proofs.Common.{◌≡◌, ℕ, suc, Bool, true, false, cond, ◌||◌, ◌⊎◌, List, [], ◌∷◌, ◌++◌, append-nil, ap₂, length, None, Option, sym, refl, ap, ◌∙◌, subst, inl, inr, arith}
+use Rattle.std.proofs.Common.{◌≡◌, ℕ, suc, Bool, true, false, cond, ◌||◌, ◌⊎◌, List, [], ◌∷◌, ◌++◌, append-nil, ap₂, length, Option, sym, refl, ap, ◌∙◌, subst, inl, inr, arith}
 use Rattle.transfer.specs.Outcome.{OutcomeModel}
 use Rattle.device.specs.Device.{Behaviour, Step}
 use Rattle.host.specs.Host.{HostBehaviour}
-use Rattle.master.specs.Script.{Script}
 use Rattle.master.specs.Master.{HostedMaster, hosted_step, hosted_pulls, hosted_mark, hosted_told}
 use Rattle.port.specs.declared.port.Mode.{Mode}
 use Rattle.port.specs.Port.{steps_asked, PortModel, port_after_bit, port_after_event as port_sees, reset_port}
@@ -21,22 +20,17 @@ use Rattle.law.specs.TransferResult.{AddressedDevice}
 use Rattle.law.specs.Monitor.{Monitor, new_monitor, monitor_after_event, monitor_after_marks}
 use Rattle.law.specs.Use.{lists_appended, Call, arms, ticks, Use, event_at, marks_of, steps_at, no_steps, steps_then, use_after_tick, use_after_call, use_after, addressed_device, new_use}
 use Rattle.law.specs.Law.{Law}
-use Rattle.law.proofs.FarSide.{Side}
 use Rattle.law.proofs.Alone.IdleBetweenTurns.{Idle}
 use Rattle.law.specs.Legal.{IsLegal}
 use Rattle.law.proofs.Alone.PortsAsSide.{unheld, idle_ports}
 use Rattle.law.proofs.Asked.RecordAfterA.{noted_by}
-use Rattle.law.proofs.Machine.BusAsMachine.{Bus}
-use Rattle.law.proofs.Machine.Invariant.{Stands, idle, claims, begun, low, rose, high}
-use Rattle.law.proofs.Machine.BookOfMachine.{Tasks}
+use Rattle.law.proofs.Machine.InvariantSays.{stands_at_rest}
 use Rattle.law.proofs.Bus.CallsKeep.{calls_keep}
 use Rattle.law.proofs.Bus.EveryUseLawful.{every_use_lawful, every_use_stands}
-use Rattle.law.proofs.Bus.BookAsMachine.{booked, contenders, turn_if}
+use Rattle.law.proofs.Bus.BookAsMachine.{contenders, turn_if}
 use Rattle.law.proofs.Asked.DeviceMaps.{pulls_to, port_places, device_places}
 use Rattle.law.proofs.Asked.NotesAreAsks.{longer_longer, length_longer, forgetting, bare_devices, bare_ports, length_noted, noted_unheld, noted_idle, bare_placed, same_holds, steps_noted, steps_bare, with_notes, new_bare}
-use Rattle.law.proofs.Bus.TickAsMachine.{seen}
-use Rattle.law.proofs.Bus.UseKeepsInvariant.{StandsAt}
-use Rattle.law.proofs.Machine.Game.{Game}
+use Rattle.law.proofs.Bus.UseKeepsInvariant.{seen_use, StandsAt}
 use Rattle.law.proofs.Bus.TransfersAsGame.{game}
 
 module _ (hs : List HostBehaviour) where
@@ -133,26 +127,10 @@ is_stop Fall = inr (λ e. cc)
 is_stop Start = inr (λ e. cc)
 is_stop SteadyLow = inr (λ e. cc)
 
--- where no turn is open the side is as the book has it
-module _ (G : Game) (Fits : G.script.Task → Type 0) (Rest : G.side.S → Type 0) where
-  abbrev W : Script
-  W = G.script
-
-  abbrev D : Side
-  D = G.side
-
-  at_rest : (u : Bus W D) (os : Tasks W) (s : D.S) (t : Option (Tasks W)) (w : Monitor) (n : ℕ) → Stands G Fits Rest u os s t w n → t ≡ None → u.side ≡ s
-  at_rest _ _ _ _ _ _ (idle u os s w cs e a t g q y) z = ap (λ b. b.side) e
-  at_rest _ _ _ _ _ _ (claims u os s l v sp cs e m g q y) z = cc
-  at_rest _ _ _ _ _ _ (begun u os s l v sp cs k n e b c m g q y) z = cc
-  at_rest _ _ _ _ _ _ (low u os s0 l v sp cs k r s d h f n e b b' c m g q y) z = cc
-  at_rest _ _ _ _ _ _ (rose u os s0 l v sp cs k r s b n e j c m g q y) z = cc
-  at_rest _ _ _ _ _ _ (high u os s0 l v sp cs k r s d c f n e j o z' m g q y) z = cc
-
--- so the ports, but for what they hold, are those of the book's devices
+-- where no turn is open the ports, but for what they hold, are those of the book's devices
 pub ports_at_rest : (hs : List HostBehaviour) (ds : List Behaviour) (x : Use hs ds) → StandsAt hs ds x → x.book.turn ≡ closed → bank_map unheld ds x.bus.ports ≡ idle_ports ds x.book.devices
-ports_at_rest hs ds x st e = let b = booked hs ds x.book in
-    at_rest (game ds) IsLegal (Idle ds) (seen hs ds x.bus) b.armed b.side b.turn x.watch st.0 st.1 (ap (λ v. turn_if v (contenders hs x.book.entries)) e)
+ports_at_rest hs ds x st e =
+    stands_at_rest (game ds) IsLegal (Idle ds) (seen_use hs ds x) st.0 st.1 (ap (λ v. turn_if v (contenders hs x.book.entries)) e)
 
 longer_nothing : (ds : List Behaviour) (d : Bank AddressedDevice (all_noting_steps ds)) (p : Bank PortModel ds) → lists_appended (all_steps ds d) (bank_list (λ b q. []) ds p) ≡ all_steps ds d
 longer_nothing [] d p = refl

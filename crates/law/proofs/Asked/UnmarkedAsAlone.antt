@@ -10,13 +10,13 @@ use Rattle.law.specs.Letter.{Letter}
 use Rattle.law.proofs.Machine.BusAsMachine.{Bus}
 use Rattle.law.proofs.Machine.PhasesOfSlot.{rank, early_lost, Cell, out, live, advance, cursors, alive}
 use Rattle.law.proofs.Machine.Arbitration.{at, lead, keep, slot, slots, opened}
-use Rattle.law.proofs.Machine.BookOfMachine.{Tasks, begins, watch}
+use Rattle.law.proofs.Machine.BookOfMachine.{Tasks, begins}
 use Rattle.law.proofs.Machine.LeadingSymbol.{rank_inj, at_keep}
 use Rattle.law.proofs.Machine.FateOfContender.{next_live, next_side, slots_next, gone}
 use Rattle.law.proofs.Machine.SlotsOfTurn.{Run, spelled, alive_at}
 use Rattle.law.proofs.Machine.CellsOfTurn.{Within, marked, never}
 use Rattle.law.proofs.Machine.SlotsTellLeast.{over_later, begun_at}
-use Rattle.law.proofs.Machine.Invariant.{Stands, idle, claims, begun, low, rose, high}
+use Rattle.law.proofs.Machine.Invariant.{Point, marks, Stands, idle, claims, begun, low, rose, high}
 use Rattle.law.proofs.Machine.Game.{Game}
 
 one_longer : (ts : List Letter) (t : Letter) → length (ts ++ (t ∷ [])) ≡ suc (length ts)
@@ -147,25 +147,29 @@ module _ (G : Game) where
         let a = as_alone k n (begins W l) (D.begin s0) i (W.begin x) p e (begun_at W l i x here) (ap (λ z. z.over) q.runs) (ap (λ z. at z.live i) q.runs ∙ c) in
         inr (record { slots_gone = k; letters = b ∙ sym a.1; many = ap length b ∙ spelled_long k (begins W l) (D.begin s0); side = d ∙ sym a.0 })
 
-    pub carried_so_far : (u : Bus W D) (os : Tasks W) (s : D.S) (t : Option (Tasks W)) (w : Monitor) (n : ℕ) → Stands G Fits Rest u os s t w n →
-        (l : Tasks W) → t ≡ Some l → (i : ℕ) (q : W.Task) → at l i ≡ Some q → StillIn W w.marked l i → ForNow W D u s w q
-    carried_so_far _ _ _ _ _ _ (idle u os s w cs e a t g q y) l f i x b c = cc
-    carried_so_far _ _ _ _ _ _ (claims u os s l v sp cs e m g q y) l' f i x b c = inl (ap (λ z. z.letters) m.1)
-    carried_so_far _ _ _ _ _ _ (begun u os s l v sp cs k n e b' c' m g q y) l' f i x b c = inl (ap (λ z. z.letters) m.1)
-    carried_so_far _ _ _ _ _ _ (low u os s0 l v sp cs k r s d h' f' n e b1 b2 c' m g q y) l' f i x b c =
-        let z : l' ≡ l = cc in
-        let here : at l i ≡ Some x = ap (λ m. at m i) (sym z) ∙ b in
-        let p = either_at W never v l cs i x m.0 g.within g.living here (subst (λ j. StillIn W v j i) z c) in
-        so_far u s0 (watch (suc k) false v sp) l i x k k r (cursors W cs) s p.0 (omega arith) q here p.1 (ap (λ z. z.letters) m.1) (ap (λ z. z.side) e ∙ sym (ap (λ z. z.side) q.runs))
-    carried_so_far _ _ _ _ _ _ (rose u os s0 l v sp cs k r s o n e j b' m g q y) l' f i x b c =
-        let z : l' ≡ l = cc in
-        let here : at l i ≡ Some x = ap (λ m. at m i) (sym z) ∙ b in
-        let p = either_at W (early_lost o) v l cs i x m.0 g.within g.living here (subst (λ j. StillIn W v j i) z c) in
-        so_far u s0 (watch (suc k) true v sp) l i x k k r (cursors W cs) s p.0 (omega arith) q here p.1 (ap (λ z. z.letters) m.1) (ap (λ z. z.side) e ∙ sym (ap (λ z. z.side) q.runs))
-    carried_so_far _ _ _ _ _ _ (high u os s0 l v sp cs k r s d o f' n e j b1 b2 m g q y) l' f i x b c =
-        let z : l' ≡ l = cc in
-        let here : at l i ≡ Some x = ap (λ m. at m i) (sym z) ∙ b in
-        let p = either_at W never v l cs i x m.0 g.within g.living here (subst (λ j. StillIn W v j i) z c) in
-        let h = m.2 in
-        so_far u s0 (watch (suc k) true v sp) l i x h.slots_gone (suc k) r (cursors W (advance W (unwrap_or o true) cs)) (taken D o s) (W.next p.0 (unwrap_or o true)) h.most q here
-        (goes_on_at W (unwrap_or o true) cs i p.0 p.1) h.letters (ap (λ z. z.side) e ∙ sym h.side)
+    pub carried_so_far : (P : Point W D) (n : ℕ) → Stands G Fits Rest P n → (l : Tasks W) → P.booked.turn ≡ Some l →
+        (i : ℕ) (q : W.Task) → at l i ≡ Some q → StillIn W P.monitor.marked l i → ForNow W D P.machine P.booked.side P.monitor q
+    carried_so_far _ _ (idle os s w cs a t g q y) l f i x b c = cc
+    carried_so_far _ _ (claims T q) l f i x b c = inl refl
+    carried_so_far _ _ (begun T e n m m' q) l f i x b c = inl refl
+    carried_so_far P _ (low T k r s d h e n m m' m'' q) l f i x b c =
+        let z : l ≡ T.contenders = cc in
+        let here : at T.contenders i ≡ Some x = ap (λ m. at m i) (sym z) ∙ b in
+        let p = either_at W never (marks G never T) T.contenders T.cells i x refl T.within T.living here
+            (subst (λ j. StillIn W (marks G never T) j i) z c) in
+        so_far P.machine T.rest P.monitor T.contenders i x k k r (cursors W T.cells) s p.0 (omega arith) q here p.1 refl
+        (sym (ap (λ z. z.side) q.runs))
+    carried_so_far P _ (rose T k r s o n j m q) l f i x b c =
+        let z : l ≡ T.contenders = cc in
+        let here : at T.contenders i ≡ Some x = ap (λ m. at m i) (sym z) ∙ b in
+        let p = either_at W (early_lost o) (marks G (early_lost o) T) T.contenders T.cells i x refl T.within T.living here
+            (subst (λ j. StillIn W (marks G (early_lost o) T) j i) z c) in
+        so_far P.machine T.rest P.monitor T.contenders i x k k r (cursors W T.cells) s p.0 (omega arith) q here p.1 refl
+        (sym (ap (λ z. z.side) q.runs))
+    carried_so_far P _ (high T k r g s d o e n j m m' t most side q) l f i x b c =
+        let z : l ≡ T.contenders = cc in
+        let here : at T.contenders i ≡ Some x = ap (λ m. at m i) (sym z) ∙ b in
+        let p = either_at W never (marks G never T) T.contenders T.cells i x refl T.within T.living here
+            (subst (λ j. StillIn W (marks G never T) j i) z c) in
+        so_far P.machine T.rest P.monitor T.contenders i x g (suc k) r (cursors W (advance W (unwrap_or o true) T.cells)) (taken D o s)
+        (W.next p.0 (unwrap_or o true)) most q here (goes_on_at W (unwrap_or o true) T.cells i p.0 p.1) refl (sym side)

@@ -1,5 +1,5 @@
 -- The making of a bus, and the law over every use from it.
-use Rattle.std.proofs.Common.{◌≡◌, ℕ, zero, suc, max, List, [], ◌∷◌, None, refl, ap, arith}
+use Rattle.std.proofs.Common.{◌≡◌, ℕ, zero, suc, max, List, [], ◌∷◌, None, refl, ap, sym, subst, arith}
 use Rattle.device.specs.Device.{Behaviour}
 use Rattle.host.specs.Host.{HostBehaviour}
 use Rattle.law.specs.Bus.{ClocksInRange}
@@ -12,16 +12,18 @@ use Rattle.law.specs.Use.{Call, Use, use_after, new_entry, addressed_device, new
 use Rattle.law.specs.Law.{EveryUse}
 use Rattle.law.specs.Legal.{IsLegal}
 use Rattle.law.specs.Limits.{ticks_of_turn}
+use Rattle.law.proofs.Alone.IdleBetweenTurns.{Idle}
 use Rattle.law.proofs.Alone.PortsAsSide.{unheld, ports_side, idle_ports}
 use Rattle.law.proofs.Machine.BookOfMachine.{count}
 use Rattle.law.proofs.Machine.CellsOfTurn.{cell_armeds, Holding}
-use Rattle.law.proofs.Machine.Invariant.{Ready, idle}
+use Rattle.law.proofs.Machine.Invariant.{Ready, Stands, idle}
 use Rattle.law.proofs.Machine.PhasesOfSlot.{Cell, out, looks, idling, Timed, free_bus}
 use Rattle.law.proofs.Bus.BookAsMachine.{meanings, tasks, Kept as KeptEntries}
 use Rattle.law.proofs.Bus.HoldsAsOne.{longest_hold}
 use Rattle.law.proofs.Bus.LawOfUse.{lawful}
 use Rattle.law.proofs.Bus.TickAsMachine.{masters_of, seen}
-use Rattle.law.proofs.Bus.UseKeepsInvariant.{hosts_of, Kept, StandsAt, calls_stay}
+use Rattle.law.proofs.Bus.UseKeepsInvariant.{hosts_of, seen_use, Kept, StandsAt, calls_stay}
+use Rattle.law.proofs.Bus.TransfersAsGame.{game}
 
 -- new masters, all of them out
 abbrev new_cell : (h : HostBehaviour) → HostedMaster h → Cell transfers
@@ -88,9 +90,10 @@ module _ (hs : List HostBehaviour) (ds : List Behaviour) (ms : Bank HostedMaster
   first_kept = record {
     let_go = λ e. new_holds ds ps;
     sound = record { kept = new_kept hs ms; contended = λ e. cc };
-    stands = idle (seen hs ds first.bus) (tasks hs first.book.entries) (idle_ports ds first.book.devices) first.watch (new_cells hs ms)
-        first_seen (new_tasks hs ms) (new_timed hs ms clocks) (new_holding hs ms)
-        (record { devices = first.book.devices; ports_are = refl }) (new_ready hs ms);
+    stands = subst (λ u. Stands (game ds) IsLegal (Idle ds) (record (seen_use hs ds first) { machine = u }) ticks_of_turn)
+        (sym first_seen) (idle (tasks hs first.book.entries) (idle_ports ds first.book.devices) first.watch (new_cells hs ms)
+        (new_tasks hs ms) (new_timed hs ms clocks) (new_holding hs ms)
+        (record { devices = first.book.devices; ports_are = refl }) (new_ready hs ms));
     hosts = new_hosts hs ms;
     counts = let z = new_count hs ms in omega arith;
   }

@@ -26,8 +26,8 @@ use Rattle.law.proofs.Alone.PortsAsSide.{unheld, ports_side, idle_ports}
 use Rattle.law.proofs.Machine.BusAsMachine.{Bus, verdicts, tick, tick_event, tick_verdicts}
 use Rattle.law.proofs.Machine.BookOfMachine.{count, any, answer, answer_if, armed_if, arm_book, task_of, armeds, pulling, arm_masters}
 use Rattle.law.proofs.Machine.BookOfMachine.{arm_bus, tellings, tick_tells, turned, noted, Book as MachineBook, feed, book_tells}
-use Rattle.law.proofs.Machine.Invariant.{Stands, arm_stands}
-use Rattle.law.proofs.Machine.InvariantKept.{Fine, tick_stands}
+use Rattle.law.proofs.Machine.Invariant.{Point, point, arm_point, Stands, arm_stands}
+use Rattle.law.proofs.Machine.InvariantKept.{Real, tick_stands}
 use Rattle.law.proofs.Machine.InvariantSays.{stands_armed, stands_side, stands_out, stands_left}
 use Rattle.law.proofs.Bus.BookAsMachine.{machine_book, booked, armed_booked, Sound, tasks, meanings, arm_tasks, arm_meanings, arm_answers}
 use Rattle.law.proofs.Bus.BookAsMachine.{armed_sound, fed_booked, fed_sound, heard_after, tells_booked}
@@ -100,43 +100,46 @@ module _ (hs : List HostBehaviour) (ds : List Behaviour) where
   told_seen u = told_as hs u.masters (signal u.wire (levels_at hs ds u))
       ∙ ap (λ v. tellings transfers (verdicts transfers (masters_of hs u.masters) (signal u.wire v))) (levels_seen hs ds u)
 
-  -- the machine of a bus beside the book of its use
-  abbrev StandsThere : Bus transfers (ports_side ds) → MachineBook transfers (ports_side ds) → Monitor → ℕ → Type 0
-  StandsThere u b w n = Stands (game ds) IsLegal (Idle ds) u b.armed b.side b.turn w n
+  -- a use as a point of the machine
+  abbrev pub seen_use : Use hs ds → Point transfers (ports_side ds)
+  seen_use x = point transfers (ports_side ds) (seen hs ds x.bus) (booked hs ds x.book) x.watch
 
-  abbrev pub StandsIn : Use hs ds → ℕ → Type 0
-  StandsIn x n = StandsThere (seen hs ds x.bus) (booked hs ds x.book) x.watch n
+  abbrev StandsThere : Point transfers (ports_side ds) → ℕ → Type 0
+  StandsThere P n = Stands (game ds) IsLegal (Idle ds) P n
 
   -- n: how many ticks are left at the most until an outcome is told
   pub record Kept (x : Use hs ds) (n : ℕ) : Type 0 where
     pub let_go : LetGo hs ds x.bus
     pub sound : Sound hs ds x.book
-    pub stands : StandsIn x n
+    pub stands : StandsThere (seen_use x) n
     pub hosts : hosts_of hs x.bus.masters ≡ meanings hs x.book.entries
     pub counts : x.accepted ≡ x.told + count (tasks hs x.book.entries)
 
   module _ (x : Use hs ds) (n : ℕ) (k : Kept x n) where
+    abbrev P : Point transfers (ports_side ds)
+    P = seen_use x
+
     abbrev u : Bus transfers (ports_side ds)
-    u = seen hs ds x.bus
+    u = P.machine
 
     abbrev b : MachineBook transfers (ports_side ds)
-    b = booked hs ds x.book
+    b = P.booked
 
     abbrev e : Event
     e = tick_event transfers (ports_side ds) u
 
     pub armed_as : armeds transfers (masters_of hs x.bus.masters) ≡ tasks hs x.book.entries
-    armed_as = stands_armed (game ds) IsLegal (Idle ds) u b.armed b.side b.turn x.watch n k.stands
+    armed_as = stands_armed (game ds) IsLegal (Idle ds) P n k.stands
 
     pub side_as : x.bus.wire.busy ≡ false → bank_map unheld ds x.bus.ports ≡ idle_ports ds x.book.devices
-    side_as = stands_side (game ds) IsLegal (Idle ds) u b.armed b.side b.turn x.watch n k.stands
+    side_as = stands_side (game ds) IsLegal (Idle ds) P n k.stands
 
     pub marked_pull_none : is_some b.turn ≡ true → (i : ℕ) → slice_index_or x.watch.marked i false ≡ true →
         pulling transfers (masters_of hs x.bus.masters) i ≡ false
-    marked_pull_none = stands_out (game ds) IsLegal (Idle ds) u b.armed b.side b.turn x.watch n k.stands
+    marked_pull_none = stands_out (game ds) IsLegal (Idle ds) P n k.stands
 
     pub few_left : n ≤ ticks_of_turn
-    few_left = stands_left (game ds) IsLegal (Idle ds) u b.armed b.side b.turn x.watch n k.stands
+    few_left = stands_left (game ds) IsLegal (Idle ds) P n k.stands
 
     pub answers_as : (i : ℕ) → (arm_at hs ds x.bus i).0 ≡ (book_arm hs ds x.book i).0
     answers_as i = arm_answer_is hs x.bus.masters i
@@ -151,6 +154,10 @@ module _ (hs : List HostBehaviour) (ds : List Behaviour) where
     arm_booked i = armed_booked hs ds x.book i
         ∙ ap (λ m. machine_book hs ds (arm_book b.armed (wants_of hs m) i) b.side b.turn) (sym k.hosts)
 
+    arm_point_as : (i : ℕ) → seen_use (use_after_call hs ds x (arms i)) ≡
+        arm_point transfers (ports_side ds) P (wants_of hs (hosts_of hs x.bus.masters)) i
+    arm_point_as i = λ j. record { machine = arm_seen i j; booked = arm_booked i j; monitor = x.watch }
+
     armed_keeps : (i : ℕ) → Kept (use_after_call hs ds x (arms i)) n
     armed_keeps i =
         let m = hosts_of hs x.bus.masters in
@@ -158,10 +165,8 @@ module _ (hs : List HostBehaviour) (ds : List Behaviour) where
         record {
           let_go = k.let_go;
           sound = armed_sound hs ds x.book i k.sound;
-          stands = subst (λ z. StandsThere z (booked hs ds (book_arm hs ds x.book i).1) x.watch n) (sym (arm_seen i))
-              (subst (λ z. StandsThere (arm_bus transfers (ports_side ds) u (wants_of hs m) i) z x.watch n) (sym (arm_booked i))
-              (arm_stands (game ds) IsLegal (Idle ds) (wants_of hs m) (legal_wants hs m) i
-              u b.armed b.side b.turn x.watch n k.stands));
+          stands = subst (λ z. StandsThere z n) (sym (arm_point_as i))
+              (arm_stands (game ds) IsLegal (Idle ds) (wants_of hs m) (legal_wants hs m) i P n k.stands);
           hosts = arm_hosts hs x.bus.masters i ∙ (k.hosts ∙ sym (arm_meanings hs es i));
           counts =
               let a = ap accepted_one (answers_as i ∙ arm_answers hs es i k.sound.kept) in
@@ -172,12 +177,10 @@ module _ (hs : List HostBehaviour) (ds : List Behaviour) where
 
     -- what the next tick does
     abbrev pub Next : ℕ → Type 0
-    Next h = Fine (game ds) IsLegal (Idle ds) (plays ds) b.armed b.side b.turn x.watch n
-        (tick transfers (ports_side ds) u h) e (tick_verdicts transfers (ports_side ds) u)
+    Next h = Real (game ds) IsLegal (Idle ds) (plays ds) P n h
 
     pub next : (h : ℕ) → h ≤ most_count → Next h
-    next h l = tick_stands (game ds) IsLegal (Idle ds) (plays ds)
-        u b.armed b.side b.turn x.watch n h l k.stands
+    next h l = tick_stands (game ds) IsLegal (Idle ds) (plays ds) P n h l k.stands
 
     pub tells_as : told_at hs ds x.bus ≡ book_told hs ds x.book (event_at hs ds x.bus)
     tells_as = told_seen x.bus ∙ ((next 0 (omega arith)).tells
@@ -215,15 +218,15 @@ module _ (hs : List HostBehaviour) (ds : List Behaviour) where
       told_many : then.told ≡ x.told + count (book_tells (game ds) b e)
       told_many = ap (λ m. x.told + m) (how_many_is (told_at hs ds x.bus) ∙ ap count (told_seen x.bus ∙ f.tells))
 
+      tick_point_as : seen_use then ≡ point transfers (ports_side ds) (tick transfers (ports_side ds) u h) (feed (game ds) b e)
+          (noted transfers later (tick_verdicts transfers (ports_side ds) u))
+      tick_point_as = λ i. record { machine = tick_seen hs ds x.bus a k.let_go i; booked = fed_as i; monitor = notes_as i }
+
       ticked_keeps : Kept then f.due
       ticked_keeps = record {
         let_go = still_let_go hs ds x.bus a k.let_go;
         sound = fed_sound hs ds x.book (event_at hs ds x.bus) k.sound;
-        stands = subst (λ z. StandsThere z (booked hs ds then.book) then.watch f.due) (sym (tick_seen hs ds x.bus a k.let_go))
-            (subst (λ z. StandsThere (tick transfers (ports_side ds) u h) z then.watch f.due) (sym fed_as)
-            (subst (λ z. StandsThere (tick transfers (ports_side ds) u h) (feed (game ds) b e) z f.due)
-            (sym notes_as)
-            f.stands));
+        stands = subst (λ z. StandsThere z f.due) (sym tick_point_as) f.stands;
         hosts = step_hosts hs x.bus.masters (signal x.bus.wire (levels_at hs ds x.bus))
             ∙ (ap₂ (hears_all hs) k.hosts tells_as ∙ sym (heard_after hs ds x.book (event_at hs ds x.bus)));
         counts = let c = f.counts in let d = told_many in let g = k.counts in let m = ap (λ z. count z.armed) fed_as in omega arith;
@@ -283,7 +286,7 @@ module _ (hs : List HostBehaviour) (ds : List Behaviour) where
 
   -- the invariant of the machine, of a use
   abbrev pub StandsAt : Use hs ds → Type 0
-  StandsAt x = (n : ℕ) × StandsIn x n
+  StandsAt x = (n : ℕ) × StandsThere (seen_use x) n
 
   pub calls_stay : (x : Use hs ds) (cs : List (Call hs ds)) (n : ℕ) → Kept x n → (m : ℕ) × Kept (use_after hs ds x cs) m
   calls_stay x cs n k = calls_keep hs ds (λ m y. (n : ℕ) × Kept y n) (λ m y i p. (p.0, armed_keeps y p.0 p.1 i))
