@@ -354,7 +354,7 @@ module _ (G : Game) (Fits : G.script.Task → Type 0) (Rest : G.side.S → Type 
       let a = note_at W j T.cells i e in
       let o : lo (W.symbol a.0) ≡ true = sym (each (W.symbol a.0) a.0) ∙ ap (is_lost W) a.2 in
       let q = contender W T.contenders T.cells T.within i a.0 a.1 in
-      let x = loses_at G T.contenders (D.begin T.rest) k r (cursors W T.cells) s run i q.0 a.0 q.1 a.1
+      let x = loses_at G T.contenders run i q.0 a.0 q.1 a.1
       (λ z. behind (W.symbol a.0) o (rank_inj (W.symbol a.0) (lead W (cursors W T.cells)) (sym z))) in
       record {
         turn = T.contenders;
@@ -375,7 +375,7 @@ module _ (G : Game) (Fits : G.script.Task → Type 0) (Rest : G.side.S → Type 
   tick_low T k r s d f e n h b b' c run = go (held W D T.cells f e) refl
     where
       some_r : 1 ≤ r
-      some_r = some_left G (begins W T.contenders) (D.begin T.rest) k r T.cells s run T.living
+      some_r = some_left G T.cells run T.living
 
       go : (x : Bool) → held W D T.cells f e ≡ x → Real (at_low G T k s d f e) n h
       go true x =
@@ -401,7 +401,7 @@ module _ (G : Game) (Fits : G.script.Task → Type 0) (Rest : G.side.S → Type 
           (tells_none W (early W o) (early_mute W o) T.cells ∙ ap nobody (sym T.armed_as))
           (loses_here T (spell (Some o) (text G T k)) never (early_lost o) (early W o) (early_is W o) k r s run (λ x e. refl)
           (λ x e z. early_behind D x s o e (ap (λ y. heard D y s) z
-          ∙ run_carries G (begins W T.contenders) (D.begin T.rest) k r T.cells s run)))
+          ∙ run_carries G T.cells run)))
           (inl (omega arith)) (rose T k r s o (ticks_of_letter * r - ticks_of_low) refl (omega arith) run))
 
   tick_high : (T : OpenTurn) (k r g : ℕ) (s : D.S) (d : Bool) (c : Option Bool) (e n h : ℕ) → h ≤ most_count →
@@ -412,8 +412,7 @@ module _ (G : Game) (Fits : G.script.Task → Type 0) (Rest : G.side.S → Type 
   tick_high T k r g s d c e n h hh j o z m m' v run = go (any_scl W (looks W (settled W e) T.cells)) refl
     where
       some_r : 1 ≤ r
-      some_r = some_left G (begins W T.contenders) (D.begin T.rest) (suc k) r (advance W (unwrap_or c true) T.cells) (taken D c s) run
-          (alive_advance W (unwrap_or c true) T.cells ∙ T.living)
+      some_r = some_left G (advance W (unwrap_or c true) T.cells) run (alive_advance W (unwrap_or c true) T.cells ∙ T.living)
 
       go : (x : Bool) → any_scl W (looks W (settled W e) T.cells) ≡ x → Real (at_high G T k g s d c e) n h
       go false x =
@@ -452,7 +451,7 @@ module _ (G : Game) (Fits : G.script.Task → Type 0) (Rest : G.side.S → Type 
     led_by j e = leads W T.cells T.living ∙ e
 
     spelt : (c : Letter) → letter D leading s ≡ c → text G T k ++ (c ∷ []) ≡ text G T (suc k)
-    spelt c e = spells G (begins W T.contenders) (D.begin T.rest) k (suc r) (cursors W T.cells) s c run e
+    spelt c e = spells G c run e
 
     loses_late : (sp : Spell) (b : Bool) (j : ℕ) → least W T.cells ≡ j → (j ≡ 2 → b ≡ true) → (i : ℕ) →
         slice_index_or (notes W (late W j) T.cells) i quiet ≡ lost →
@@ -485,11 +484,11 @@ module _ (G : Game) (Fits : G.script.Task → Type 0) (Rest : G.side.S → Type 
         (loses_late (spell (Some b) (text G T k)) b j e (λ p. absurd (j2 p))) (inl (omega arith))
         (high U k r k s b (Some b) 1 (n - 2) d (omega arith) (omega arith) spells_on (omega arith) (ap (λ x. x.side) run.runs)
         (subst (λ x. Slots G U (suc k) r (advance W x U.cells) (D.bit s x)) c
-        (run_bit G (begins W T.contenders) (D.begin T.rest) k r T.cells s j run T.living e j1 j2)))))
+        (run_bit G T.cells run T.living j e j1 j2)))))
       where
         spells_on : text G T k ++ (bit_letter b ∷ []) ≡ text G T (suc k)
         spells_on = spelt (bit_letter b) (letter_bit D leading s (λ z. j1 (sym (led_by j e) ∙ z)) (λ z. j2 (sym (led_by j e) ∙ z))
-            ∙ ap bit_letter (run_carries G (begins W T.contenders) (D.begin T.rest) k (suc r) T.cells s run ∙ c))
+            ∙ ap bit_letter (run_carries G T.cells run ∙ c))
 
     fresh_again : carries W D T.cells s ≡ true → least W T.cells ≡ 2 →
         tick W D (fresh_bus W D true T.cells s) h ≡ settled_bus W D false None (stay W 2 T.cells) (D.begin s) 0 →
@@ -511,7 +510,7 @@ module _ (G : Game) (Fits : G.script.Task → Type 0) (Rest : G.side.S → Type 
       where
         again : Run G (begins W T.contenders) (D.begin T.rest) (suc k) r
             (cursors W (advance W (carries W D T.cells s) (stay W 2 T.cells))) (D.begin s)
-        again = run_again G (begins W T.contenders) (D.begin T.rest) k r T.cells s run T.living e
+        again = run_again G T.cells run T.living e
 
         spells_on : text G T k ++ (restart ∷ []) ≡ text G T (suc k)
         spells_on = spelt restart (letter_again D leading s (led_by 2 e))
@@ -560,7 +559,7 @@ module _ (G : Game) (Fits : G.script.Task → Type 0) (Rest : G.side.S → Type 
         ts = outcomes G l first (D.begin T.rest)
 
         told_is : ending W (cursors W T.cells) ≡ ts
-        told_is = told_at_stop G l (D.begin T.rest) k (suc r) T.cells s run stops_here T.within
+        told_is = told_at_stop G l T.cells run stops_here T.within
 
         stopped : (i : ℕ) (p : W.Task) → at l i ≡ Some p → Stopped G l T.rest P.monitor.marked (tellings W ks) i p
         stopped i p a =
@@ -568,8 +567,8 @@ module _ (G : Game) (Fits : G.script.Task → Type 0) (Rest : G.side.S → Type 
             ap (λ x. is_some (at x i)) (tells_end W T.cells ∙ told_is) ∙ outcome_at G first (D.begin T.rest) l i p a in
             record {
               unmarked = ap (λ x. is_some (at x i)) (tells_end W T.cells) ∙ tells_unmarked W l T.cells T.within ev i p a;
-              least = λ h. wins_least G l (D.begin T.rest) k (suc r) (cursors W T.cells) s run i p a (sym w ∙ h);
-              wins = λ h. w ∙ least_wins G l (D.begin T.rest) k (suc r) (cursors W T.cells) s run i p a h;
+              least = λ h. wins_least G l run i p a (sym w ∙ h);
+              wins = λ h. w ∙ least_wins G l run i p a h;
             }
 
         -- a contender that shows the stop, and the leader
@@ -577,7 +576,7 @@ module _ (G : Game) (Fits : G.script.Task → Type 0) (Rest : G.side.S → Type 
         one = let a = alive_at W T.cells T.living in (a.0, contender W l T.cells T.within a.0 a.1.0 a.1.1)
 
         led : (x : W.Task) × (first ≡ Some x) × (text G T (suc k) ≡ task_string G x (D.begin T.rest))
-        led = stop_spells G l (D.begin T.rest) k (suc r) (cursors W T.cells) s run stops_here one.0 one.1.0 one.1.1
+        led = stop_spells G l run stops_here one.0 one.1.0 one.1.1
 
         rested : Rest (leader_side G first (D.begin T.rest))
         rested = let j = leader_in G l (D.begin T.rest) led.0 led.1 in
@@ -591,7 +590,7 @@ module _ (G : Game) (Fits : G.script.Task → Type 0) (Rest : G.side.S → Type 
         }
 
         side : leader_side G first (D.begin T.rest) ≡ D.finish s
-        side = stop_side G l (D.begin T.rest) k (suc r) (cursors W T.cells) s run stops_here one.0 one.1.0 one.1.1
+        side = stop_side G l run stops_here one.0 one.1.0 one.1.1
 
     -- b is what the slot carries, so it is what the least symbol shows
     rises_as : (b c : Bool) → carries W D T.cells s ≡ b → carries W D T.cells s ≡ c → Rises c → Rises b
@@ -635,9 +634,9 @@ module _ (G : Game) (Fits : G.script.Task → Type 0) (Rest : G.side.S → Type 
   tick_rises : (T : OpenTurn) (k r : ℕ) (s : D.S) (b : Bool) (n h : ℕ) → carries W D T.cells s ≡ b →
       n + ticks_of_low ≡ ticks_of_letter * r → Slots G T k r T.cells s → Real (at_rise G T k s b) n h
   tick_rises T k zero s b n h c z run =
-      let a = some_left G (begins W T.contenders) (D.begin T.rest) k 0 T.cells s run T.living in absurd (omega arith)
+      let a = some_left G T.cells run T.living in absurd (omega arith)
   tick_rises T k (suc r) s b n h c z run =
-      rises T k r s n h z run b c (run_shape G (begins W T.contenders) (D.begin T.rest) k (suc r) T.cells s run T.living)
+      rises T k r s n h z run b c (run_shape G T.cells run T.living)
       (least W T.cells) refl (alive_least W T.cells T.living)
 
   -- a tick in any phase

@@ -114,15 +114,15 @@ module _ (G : Game) where
     pub paired : Paired G l
     pub sums : r + k ≡ most_letters
 
-  pub spells : (l : Live G) (s0 : D.S) (k r : ℕ) (ps : Live G) (s : D.S) (c : Letter) → Run l s0 k r ps s →
+  pub spells : {l : Live G} {s0 : D.S} {k r : ℕ} {ps : Live G} {s : D.S} (c : Letter) → Run l s0 k r ps s →
       next_letter G ps s ≡ c → spelled l s0 k ++ (c ∷ []) ≡ spelled l s0 (suc k)
-  spells l s0 k r ps s c h e = grind arith
+  spells c h e = grind arith
 
   quiet_next : (x : Symbol) (p r : W.Cursor) (s : D.S) → W.symbol p ≡ x → r ≡ W.next p (heard D x s) → ends x ≡ false →
       Quiet G p s → Quiet G r (after D x s)
   quiet_next x p r s e d h k = rw (d, ← e) (λ n. (k (suc n)).1 (λ z. not_end x h (sym e ∙ z)))
 
-  pub run_next : (l : Live G) (s0 : D.S) (k r : ℕ) (ps : Live G) (s : D.S) → Run l s0 k (suc r) ps s →
+  run_next : (l : Live G) (s0 : D.S) (k r : ℕ) (ps : Live G) (s : D.S) → Run l s0 k (suc r) ps s →
       ends (lead W ps) ≡ false → Run l s0 (suc k) r (next_live G ps s) (next_side G ps s)
   run_next l s0 k r ps s h e = record {
     runs = slots_last k (opened G l s0) ∙ ap (slot G) h.runs ∙ moves G ps s e;
@@ -135,7 +135,7 @@ module _ (G : Game) where
   }
 
   -- what the run says of the cells
-  module _ (l : Live G) (s0 : D.S) (k r : ℕ) (cs : List (Cell W)) (s : D.S) (h : Run l s0 k r (cursors W cs) s) where
+  module _ {l : Live G} {s0 : D.S} {k r : ℕ} (cs : List (Cell W)) {s : D.S} (h : Run l s0 k r (cursors W cs) s) where
     abbrev here : Symbol
     here = lead W (cursors W cs)
 
@@ -173,7 +173,8 @@ module _ (G : Game) where
         ∙ ap (λ b. not (b || D.pulls s)) (sym (some_lead W cs))
 
   -- the next slot, by the cells
-  module _ (l : Live G) (s0 : D.S) (k r : ℕ) (cs : List (Cell W)) (s : D.S) where
+  module _ {l : Live G} {s0 : D.S} {k r : ℕ} (cs : List (Cell W)) {s : D.S} (h : Run l s0 k (suc r) (cursors W cs) s)
+      (v : alive W cs ≡ true) where
     abbrev shows : Symbol
     shows = lead W (cursors W cs)
 
@@ -181,25 +182,23 @@ module _ (G : Game) where
     abbrev goes_on : ℕ → Live G
     goes_on n = cursors W (advance W (carries W D cs s) (stay W n cs))
 
-    run_cells : (n : ℕ) → Run l s0 k (suc r) (cursors W cs) s → alive W cs ≡ true → least W cs ≡ n → (n ≡ 1 → ⊥) →
-        Run l s0 (suc k) r (goes_on n) (after D shows s)
-    run_cells n h v e d =
+    run_cells : (n : ℕ) → least W cs ≡ n → (n ≡ 1 → ⊥) → Run l s0 (suc k) r (goes_on n) (after D shows s)
+    run_cells n e d =
         let a : rank shows ≡ n = leads W cs v ∙ e in
-        let survive = ap (λ b. keep_all W shows b (cursors W cs)) (run_carries l s0 k (suc r) cs s h)
+        let survive = ap (λ b. keep_all W shows b (cursors W cs)) (run_carries cs h)
         ∙ keep_cells W shows n (carries W D cs s) cs a in
         subst (λ ps. Run l s0 (suc k) r ps (after D shows s)) survive
         (run_next l s0 k r (cursors W cs) s h (ends_rank shows (λ z. d (sym a ∙ z))))
 
-    pub run_bit : (n : ℕ) → Run l s0 k (suc r) (cursors W cs) s → alive W cs ≡ true → least W cs ≡ n →
-        (n ≡ 1 → ⊥) → (n ≡ 2 → ⊥) → Run l s0 (suc k) r (goes_on n) (D.bit s (carries W D cs s))
-    run_bit n h v e d1 d2 =
+    pub run_bit : (n : ℕ) → least W cs ≡ n → (n ≡ 1 → ⊥) → (n ≡ 2 → ⊥) →
+        Run l s0 (suc k) r (goes_on n) (D.bit s (carries W D cs s))
+    run_bit n e d1 d2 =
         let a : rank shows ≡ n = leads W cs v ∙ e in
         let bit = after_bit D shows s (λ z. d1 (sym a ∙ z)) (λ z. d2 (sym a ∙ z)) in
-        subst (λ t. Run l s0 (suc k) r (goes_on n) t) (bit ∙ ap (D.bit s) (run_carries l s0 k (suc r) cs s h))
-        (run_cells n h v e d1)
+        subst (λ t. Run l s0 (suc k) r (goes_on n) t) (bit ∙ ap (D.bit s) (run_carries cs h))
+        (run_cells n e d1)
 
-    pub run_again : Run l s0 k (suc r) (cursors W cs) s → alive W cs ≡ true → least W cs ≡ 2 →
-        Run l s0 (suc k) r (goes_on 2) (D.begin s)
-    run_again h v e =
+    pub run_again : least W cs ≡ 2 → Run l s0 (suc k) r (goes_on 2) (D.begin s)
+    run_again e =
         subst (λ t. Run l s0 (suc k) r (goes_on 2) t) (after_again D shows s (leads W cs v ∙ e))
-        (run_cells 2 h v e (omega arith))
+        (run_cells 2 e (omega arith))

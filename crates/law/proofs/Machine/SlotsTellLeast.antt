@@ -146,7 +146,7 @@ module _ (G : Game) where
   fuel_final (suc n) (suc m) p s h k = grind (arith, fuel_final n m)
 
   -- l: the contenders, t: the least of their strings
-  module _ (l : Tasks W) (s0 : D.S) (k r : ℕ) (ps : Live G) (s : D.S) (run : Run G (begins W l) s0 k r ps s) where
+  module _ (l : Tasks W) {s0 : D.S} {k r : ℕ} {ps : Live G} {s : D.S} (run : Run G (begins W l) s0 k r ps s) where
     abbrev own : W.Task → List Letter
     own q = task_string G q s0
 

@@ -116,15 +116,15 @@ module _ (G : Game) where
       ∙ ap (λ x. wins G x q s) z
   outcome_at q s (o ∷ l) (suc i) p e = grind (arith, outcome_at q s l)
 
-  pub told_at_stop : (l : Tasks W) (s0 : D.S) (k r : ℕ) (cs : List (Cell W)) (s : D.S) →
+  pub told_at_stop : (l : Tasks W) {s0 : D.S} {k r : ℕ} (cs : List (Cell W)) {s : D.S} →
       Run G (begins W l) s0 k r (cursors W cs) s → rank (lead W (cursors W cs)) ≡ 1 → Within W l cs →
       ending W (cursors W cs) ≡ outcomes G l (leader G l s0) s0
-  told_at_stop l s0 k r cs s run stops h =
+  told_at_stop l {s0} {k} {r} cs {s} run stops h =
       outcomes_are (leader G l s0) s0 l cs h (λ i q a. each i q a (at (cursors W cs) i) refl)
     where
       each : (i : ℕ) (q : W.Task) → at l i ≡ Some q → (o : Option W.Cursor) → at (cursors W cs) i ≡ o →
           names W o ≡ cond (wins G q (leader G l s0) s0) (Some (task_outcome G q s0)) None
-      each i q a o b = go o b (stop_wins G l s0 k r (cursors W cs) s run stops i q a
+      each i q a o b = go o b (stop_wins G l run stops i q a
           ∙ ap (λ o. is_some (keep W (lead W (cursors W cs)) (heard D (lead W (cursors W cs)) s) o)) b)
         where
           go : (o : Option W.Cursor) → at (cursors W cs) i ≡ o →
@@ -143,7 +143,7 @@ module _ (G : Game) where
               two true e =
                   let g : rank (W.symbol p) ≡ rank (lead W (cursors W cs)) =
                   sym (eqb-true (rank (lead W (cursors W cs))) (rank (W.symbol p)) e) in
-                  let f = stop_names G l s0 k r (cursors W cs) s run stops i q p a b
+                  let f = stop_names G l run stops i q p a b
                   (rank_inj (W.symbol p) (lead W (cursors W cs)) g) in
                   ap (λ z. cond z (Some (W.outcome p)) None) (eq-eqb (rank (W.symbol p)) 1 (g ∙ stops))
                   ∙ ap (λ z. Some (W.outcome z)) (sym f)
