@@ -156,20 +156,20 @@ module _ (G : Game) where
         let z : l ≡ T.contenders = cc in
         let here : at T.contenders i ≡ Some x = ap (λ m. at m i) (sym z) ∙ b in
         let p = either_at W never (marks G never T) T.contenders T.cells i x refl T.within T.living here
-            (subst (λ j. StillIn W (marks G never T) j i) z c) in
+        (subst (λ j. StillIn W (marks G never T) j i) z c) in
         so_far P.machine T.rest P.monitor T.contenders i x k k r (cursors W T.cells) s p.0 (omega arith) q here p.1 refl
         (sym (ap (λ z. z.side) q.runs))
     carried_so_far P _ (rose T k r s o n j m q) l f i x b c =
         let z : l ≡ T.contenders = cc in
         let here : at T.contenders i ≡ Some x = ap (λ m. at m i) (sym z) ∙ b in
         let p = either_at W (early_lost o) (marks G (early_lost o) T) T.contenders T.cells i x refl T.within T.living here
-            (subst (λ j. StillIn W (marks G (early_lost o) T) j i) z c) in
+        (subst (λ j. StillIn W (marks G (early_lost o) T) j i) z c) in
         so_far P.machine T.rest P.monitor T.contenders i x k k r (cursors W T.cells) s p.0 (omega arith) q here p.1 refl
         (sym (ap (λ z. z.side) q.runs))
     carried_so_far P _ (high T k r g s d o e n j m m' t most side q) l f i x b c =
         let z : l ≡ T.contenders = cc in
         let here : at T.contenders i ≡ Some x = ap (λ m. at m i) (sym z) ∙ b in
         let p = either_at W never (marks G never T) T.contenders T.cells i x refl T.within T.living here
-            (subst (λ j. StillIn W (marks G never T) j i) z c) in
+        (subst (λ j. StillIn W (marks G never T) j i) z c) in
         so_far P.machine T.rest P.monitor T.contenders i x g (suc k) r (cursors W (advance W (unwrap_or o true) T.cells)) (taken D o s)
         (W.next p.0 (unwrap_or o true)) most q here (goes_on_at W (unwrap_or o true) T.cells i p.0 p.1) refl (sym side)
