@@ -158,49 +158,47 @@ module _ (G : Game) where
         armed_ready = arm_ready Fits T.armed ws i wants T.armed_ready;
       }
 
-      arm_slots : (T : Turn Fits Rest) (k r : ℕ) (s : D.S) → Slots T k r T.cells s → Slots (arm_turn T) k r (arm_turn T).cells s
-      arm_slots T k r s = subst (λ ps. Run G (begins W T.contenders) (D.begin T.rest) k r ps s) (sym (arm_cursors W T.cells ws i))
+      arm_slots : (T : Turn Fits Rest) {k r : ℕ} {s : D.S} → Slots T k r T.cells s → Slots (arm_turn T) k r (arm_turn T).cells s
+      arm_slots T {k} {r} {s} q = subst (λ ps. Run G (begins W T.contenders) (D.begin T.rest) k r ps s)
+          (sym (arm_cursors W T.cells ws i)) q
 
       -- f: what each live master looks like in its phase
       arm_phase : (f : MasterModel W → W.Cursor → MasterModel W)
-          (keeps : (m : MasterModel W) (p : W.Cursor) → (f m p).arming ≡ m.arming) (u : Bus W D) (cs : List (Cell W)) (b : Book W D)
-          (w : Monitor) (n : ℕ) → Holding W cs →
+          (keeps : (m : MasterModel W) (p : W.Cursor) → (f m p).arming ≡ m.arming) (u : Bus W D) {b : Book W D} {w : Monitor} {n : ℕ}
+          (cs : List (Cell W)) → Holding W cs →
           Stands (point W D (record u { masters = looks W f (arm_cells W cs ws i) }) b w) n →
           Stands (point W D (record u { masters = arm_masters W (looks W f cs) ws i }) b w) n
-      arm_phase f keeps u cs b w n h =
+      arm_phase f keeps u {b} {w} {n} cs h =
           subst (λ ms. Stands (point W D (record u { masters = ms }) b w) n) (sym (arm_looks W f keeps cs ws i h))
 
       arm_in_turn : (lost : Symbol → Bool) (f : MasterModel W → W.Cursor → MasterModel W)
-          (keeps : (m : MasterModel W) (p : W.Cursor) → (f m p).arming ≡ m.arming) (u : Bus W D) (T : Turn Fits Rest) (k : ℕ) (risen : Bool)
-          (sp : Spell) (n : ℕ) →
+          (keeps : (m : MasterModel W) (p : W.Cursor) → (f m p).arming ≡ m.arming) (u : Bus W D) (T : Turn Fits Rest) {k : ℕ}
+          {risen : Bool} {sp : Spell} {n : ℕ} →
           Stands (in_turn lost (arm_turn T) (record u { masters = looks W f (arm_turn T).cells }) k risen sp) n →
           Stands (arm_point W D (in_turn lost T (record u { masters = looks W f T.cells }) k risen sp) ws i) n
-      arm_in_turn lost f keeps u T k risen sp n st =
+      arm_in_turn lost f keeps u T {k} {risen} {sp} {n} st =
           let b : Book W D = book W D (arm_turn T).armed T.rest (Some T.contenders) in
-          arm_phase f keeps u T.cells b (watch k risen (marks lost T) sp) n T.holding
+          arm_phase f keeps u T.cells T.holding
           (subst (λ v. Stands (point W D (record u { masters = looks W f (arm_turn T).cells }) b (watch k risen v sp)) n)
           (sym (arm_marked W lost T.contenders T.cells ws i)) st)
 
       -- an arm in any phase
       pub arm_stands : (P : Point W D) (n : ℕ) → Stands P n → Stands (arm_point W D P ws i) n
-      arm_stands _ _ (idle os s w cs a t g q y) =
-          arm_phase (idling W) (λ m p. refl) (free_bus W D cs s) cs (book W D (arm_book os ws i) s None) w ticks_of_turn g
+      arm_stands P _ (idle os s w cs a t g q y) =
+          arm_phase (idling W) (λ m p. refl) P.machine cs g
           (idle (arm_book os ws i) s w (arm_cells W cs ws i) (ap (λ x. arm_book x ws i) a ∙ arm_armeds W cs ws i g)
           (arm_timed W cs ws i t) (arm_holding W cs ws i g) q (arm_ready Fits os ws i wants y))
-      arm_stands _ _ (claims T q) =
-          arm_in_turn never (claimed W) (λ m p. refl) (claimed_bus W D T.cells T.rest) T 0 false (spell None []) (ticks_of_turn - 1)
-          (claims (arm_turn T) (arm_slots T 0 most_letters (D.begin T.rest) q))
-      arm_stands _ _ (begun T e n b c q) =
-          arm_in_turn never (opened W e) (λ m p. refl) (opened_bus W D T.cells (D.begin T.rest) e) T 0 false (spell None []) n
-          (begun (arm_turn T) e n b c (arm_slots T 0 most_letters (D.begin T.rest) q))
-      arm_stands _ _ (low T k r s d h e n b b' c q) =
-          arm_in_turn never (lowered W e) (λ m p. refl) (low_bus W D d T.cells s h e) T (suc k) false (spell None (text T k)) n
-          (low (arm_turn T) k r s d h e n b b' c (arm_slots T k r s q))
-      arm_stands _ _ (rose T k r s b n j c q) =
-          arm_in_turn (early_lost b) (fresh W b) (fresh_keeps W b) (fresh_bus W D b T.cells s) T (suc k) true (spell (Some b) (text T k)) n
-          (rose (arm_turn T) k r s b n (ap (λ x. not (x || D.pulls s)) (arm_some W pulls_sda T.cells ws i) ∙ j) c (arm_slots T k r s q))
-      arm_stands _ _ (high T k r g s d c e n j o z m m' v q) =
-          arm_in_turn never (settled W e) (λ m p. refl) (settled_bus W D d c T.cells s e) T (suc k) true (spell c (text T g)) n
+      arm_stands P _ (claims T q) =
+          arm_in_turn never (claimed W) (λ m p. refl) P.machine T (claims (arm_turn T) (arm_slots T q))
+      arm_stands P _ (begun T e n b c q) =
+          arm_in_turn never (opened W e) (λ m p. refl) P.machine T (begun (arm_turn T) e n b c (arm_slots T q))
+      arm_stands P _ (low T k r s d h e n b b' c q) =
+          arm_in_turn never (lowered W e) (λ m p. refl) P.machine T (low (arm_turn T) k r s d h e n b b' c (arm_slots T q))
+      arm_stands P _ (rose T k r s b n j c q) =
+          arm_in_turn (early_lost b) (fresh W b) (fresh_keeps W b) P.machine T
+          (rose (arm_turn T) k r s b n (ap (λ x. not (x || D.pulls s)) (arm_some W pulls_sda T.cells ws i) ∙ j) c (arm_slots T q))
+      arm_stands P _ (high T k r g s d c e n j o z m m' v q) =
+          arm_in_turn never (settled W e) (λ m p. refl) P.machine T
           (high (arm_turn T) k r g s d c e n (ap (λ x. not (x || D.pulls s)) (arm_some W holds T.cells ws i) ∙ j) o z m m' v
           (subst (λ ps. Run G (begins W T.contenders) (D.begin T.rest) (suc k) r ps (taken D c s))
           (sym (arm_advance W (unwrap_or c true) T.cells ws i)) q))
