@@ -182,10 +182,10 @@ module _ (G : Game) (Fits : G.script.Task → Type 0) (Rest : G.side.S → Type 
   Real P n h = Fine P n (tick W D P.machine h) (tick_event W D P.machine) (tick_verdicts W D P.machine)
 
   -- by what the tick is known to be
-  by_tick : (P : Point W D) (n h : ℕ) (u : Bus W D) (ks : List (VerdictModel W)) →
+  by_tick : {P : Point W D} {n : ℕ} (h : ℕ) {u : Bus W D} {ks : List (VerdictModel W)} →
       tick W D P.machine h ≡ u → tick_verdicts W D P.machine ≡ ks →
       Fine P n u (event_between P.machine.wire.last u.wire.last) ks → Real P n h
-  by_tick P n h u ks a b f =
+  by_tick {P} {n} h {u} {ks} a b f =
       subst (λ x. Fine P n (tick W D P.machine h) (tick_event W D P.machine) x) (sym b)
       (subst (λ x. Fine P n x (event_between P.machine.wire.last x.wire.last) ks) (sym a) f)
 
@@ -199,11 +199,13 @@ module _ (G : Game) (Fits : G.script.Task → Type 0) (Rest : G.side.S → Type 
   quiet_book b SteadyLow n = (refl, refl)
 
   -- a tick from P to Q that tells nobody
-  silent : (P Q : Point W D) (n n' : ℕ) (e : Event) (ks : List (VerdictModel W)) →
-      feed G P.booked e ≡ Q.booked → (e ≡ Stop → ⊥) → noted W (later P e) ks ≡ Q.monitor → tellings W ks ≡ nobody P.booked.armed →
-      ((i : ℕ) → slice_index_or ks i quiet ≡ lost → Loses G P.booked.turn P.booked.side P.monitor.marked (later P e) i) →
-      (n' < n) ⊎ (any P.booked.armed ≡ false) → StandsAs Q n' → Fine P n Q.machine e ks
-  silent P Q n n' e ks fe ne se ts ls fs st =
+  silent : {P Q : Point W D} {n n' : ℕ} (e : Event) (ks : List (VerdictModel W)) → StandsAs Q n' →
+      feed G P.booked e ≡ Q.booked → (e ≡ Stop → ⊥) → noted W (later P e) ks ≡ Q.monitor →
+      tellings W ks ≡ nobody P.booked.armed →
+      ((i : ℕ) → slice_index_or ks i quiet ≡ lost →
+      Loses G P.booked.turn P.booked.side P.monitor.marked (later P e) i) →
+      (n' < n) ⊎ (any P.booked.armed ≡ false) → Fine P n Q.machine e ks
+  silent {P} {Q} {n} {n'} e ks st fe ne se ts ls fs =
       let z = quiet_book P.booked e ne in
       record {
         due = n';
@@ -222,19 +224,19 @@ module _ (G : Game) (Fits : G.script.Task → Type 0) (Rest : G.side.S → Type 
   no_loses t s v w cs i h = let a = note_at W (no_verdict W) cs i h in let b : ◌≡◌ {A = VerdictModel W} quiet lost = a.2 in cc
 
   -- a tick with no verdict
-  plain : (P Q : Point W D) (cs : List (Cell W)) (n n' h : ℕ) (e : Event) →
+  plain : {P Q : Point W D} {n n' : ℕ} (cs : List (Cell W)) (h : ℕ) (e : Event) → StandsAs Q n' →
       P.booked.armed ≡ cell_armeds W cs → tick W D P.machine h ≡ Q.machine →
       event_between P.machine.wire.last Q.machine.wire.last ≡ e →
       said W D P.machine Q.machine.wire.last ≡ notes W (no_verdict W) cs →
       feed G P.booked e ≡ Q.booked → (e ≡ Stop → ⊥) → later P e ≡ Q.monitor →
-      (n' < n) ⊎ (any P.booked.armed ≡ false) → StandsAs Q n' → Real P n h
-  plain P Q cs n n' h e a q ev sd fe ne se fs st =
+      (n' < n) ⊎ (any P.booked.armed ≡ false) → Real P n h
+  plain {P} {Q} {n} cs h e st a q ev sd fe ne se fs =
       let ks = notes W (no_verdict W) cs in
-      by_tick P n h Q.machine ks q (via_verdicts W D P.machine ks Q.machine.wire.last (ap (λ x. x.wire.last) q) sd)
+      by_tick h q (via_verdicts W D P.machine ks Q.machine.wire.last (ap (λ x. x.wire.last) q) sd)
       (subst (λ x. Fine P n Q.machine x ks) (sym ev)
-      (silent P Q n n' e ks fe ne (marks_none W (later P e) cs ∙ se)
+      (silent e ks st fe ne (marks_none W (later P e) cs ∙ se)
       (tells_none W (no_verdict W) (λ x p. refl) cs ∙ ap nobody (sym a))
-      (no_loses P.booked.turn P.booked.side P.monitor.marked (later P e) cs) fs st))
+      (no_loses P.booked.turn P.booked.side P.monitor.marked (later P e) cs) fs))
 
   -- who shows the rank j stays, where that is the least
   abbrev stay_turn : (T : OpenTurn) (j : ℕ) → least W T.cells ≡ j → j ≤ 4 → OpenTurn
@@ -304,26 +306,26 @@ module _ (G : Game) (Fits : G.script.Task → Type 0) (Rest : G.side.S → Type 
 
       go : (v : Bool) → any os ≡ v → Real (at_rest G os s w cs) ticks_of_turn h
       go true v =
-          plain (at_rest G os s w cs) (at_claim G (opens_with v)) cs ticks_of_turn (ticks_of_turn - 1) h SteadyHigh a goes refl
-          (idle_quiet W cs) (ap (λ z. book W D os s (cond z (Some os) None)) v) high_no
+          plain cs h SteadyHigh
+          (claims (opens_with v) (subst (λ ps. Run G (begins W os) (D.begin s) 0 most_letters ps (D.begin s))
+          (ap (begins W) a ∙ sym (cursors_claim W cs)) (first_run os s q y)))
+          a goes refl (idle_quiet W cs) (ap (λ z. book W D os s (cond z (Some os) None)) v) high_no
           (ap (λ z. cond z (watch 0 false (falses os) (spell None [])) w) v ∙ ap (λ x. watch 0 false x (spell None []))
           (ap falses a ∙ marked_claim W cs ∙ ap (λ z. marked W never z (claim_all W cs)) (sym a)))
           (inl (omega arith))
-          (claims (opens_with v) (subst (λ ps. Run G (begins W os) (D.begin s) 0 most_letters ps (D.begin s))
-          (ap (begins W) a ∙ sym (cursors_claim W cs)) (first_run os s q y)))
       go false v =
-          plain (at_rest G os s w cs) (at_rest G os s w (claim_all W cs)) cs ticks_of_turn ticks_of_turn h SteadyHigh a
-          (goes ∙ free_stays G (claim_all W cs) s (alive_claim W cs ∙ ap any (sym a) ∙ v)) refl (idle_quiet W cs)
+          plain cs h SteadyHigh
+          (idle os s w (claim_all W cs) (a ∙ sym (armeds_claim W cs)) (timed_claim W cs t) (holding_claim W cs) q y)
+          a (goes ∙ free_stays G (claim_all W cs) s (alive_claim W cs ∙ ap any (sym a) ∙ v)) refl (idle_quiet W cs)
           (ap (λ z. book W D os s (cond z (Some os) None)) v) high_no
           (ap (λ z. cond z (watch 0 false (falses os) (spell None [])) w) v) (inr v)
-          (idle os s w (claim_all W cs) (a ∙ sym (armeds_claim W cs)) (timed_claim W cs t) (holding_claim W cs) q y)
 
   tick_claims : (T : OpenTurn) (h : ℕ) → Slots G T 0 most_letters T.cells (D.begin T.rest) →
       Real (at_claim G T) (ticks_of_turn - 1) h
   tick_claims T h run =
-      plain (at_claim G T) (at_start G T 0) T.cells (ticks_of_turn - 1) (ticks_of_turn - 2) h Start T.armed_as
-      (claimed_starts G T.cells T.rest h T.timed T.living) refl (claimed_quiet W T.cells) refl start_no refl (inl (omega arith))
-      (begun T 0 (ticks_of_turn - 2) (omega arith) (omega arith) run)
+      plain T.cells h Start (begun T 0 (ticks_of_turn - 2) (omega arith) (omega arith) run) T.armed_as
+      (claimed_starts G T.cells T.rest h T.timed T.living) refl (claimed_quiet W T.cells) refl start_no refl
+      (inl (omega arith))
 
   tick_begun : (T : OpenTurn) (e n h : ℕ) → e ≤ most_count → n + 2 + e ≡ ticks_of_turn →
       Slots G T 0 most_letters T.cells (D.begin T.rest) → Real (at_start G T e) n h
@@ -335,14 +337,15 @@ module _ (G : Game) (Fits : G.script.Task → Type 0) (Rest : G.side.S → Type 
             | inl z ↦ z
             | inr z ↦ let y = opened_ends G T.cells e T.timed T.living z in cc
           ] in
-          plain (at_start G T e) (at_start G T (e + 1)) T.cells n (n - 1) h SteadyHigh T.armed_as
-          (opened_stays G T.cells (D.begin T.rest) e h T.timed T.living x) refl (opened_quiet W e T.cells) refl high_no refl
-          (inl (omega arith)) (begun T (e + 1) (n - 1) (omega arith) (omega arith) run)
+          plain T.cells h SteadyHigh (begun T (e + 1) (n - 1) (omega arith) (omega arith) run) T.armed_as
+          (opened_stays G T.cells (D.begin T.rest) e h T.timed T.living x) refl (opened_quiet W e T.cells) refl high_no
+          refl (inl (omega arith))
       go true x =
-          plain (at_start G T e) (at_low G T 0 (D.begin T.rest) false 0 0) T.cells n (ticks_of_letter * most_letters) h Fall T.armed_as
-          (opened_falls G T.cells (D.begin T.rest) e h T.timed T.living x) refl (opened_fall_quiet W e T.cells) refl fall_no refl
-          (inl (omega arith))
-          (low T 0 most_letters (D.begin T.rest) false 0 0 (ticks_of_letter * most_letters) (omega arith) (omega arith) (omega arith) run)
+          let m = ticks_of_letter * most_letters in
+          plain T.cells h Fall
+          (low T 0 most_letters (D.begin T.rest) false 0 0 m (omega arith) (omega arith) (omega arith) run) T.armed_as
+          (opened_falls G T.cells (D.begin T.rest) e h T.timed T.living x) refl (opened_fall_quiet W e T.cells) refl
+          fall_no refl (inl (omega arith))
 
   -- a mark in the slot k; f: who is marked before, lo: whom the verdicts mark
   loses_here : (T : OpenTurn) (sp : Spell) (f lo : Symbol → Bool) (j : Symbol → W.Cursor → VerdictModel W)
@@ -384,25 +387,24 @@ module _ (G : Game) (Fits : G.script.Task → Type 0) (Rest : G.side.S → Type 
             | inl z ↦ z
             | inr z ↦ let q = low_ends G T.cells e T.timed z in absurd (grind (arith, tells))
           ] in
-          plain (at_low G T k s d f e) (at_low G T k s (carries W D T.cells s) f (e + 1)) T.cells n (n - 1) h SteadyLow T.armed_as
+          plain T.cells h SteadyLow
+          (low T k r s (carries W D T.cells s) f (e + 1) (n - 1) b (omega arith) (omega arith) run) T.armed_as
           (low_stays G d T.cells s f e h x) refl (lowered_quiet W e T.cells) refl low_no refl (inl (omega arith))
-          (low T k r s (carries W D T.cells s) f (e + 1) (n - 1) b (omega arith) (omega arith) run)
       go false x =
           let z = some_r in
           let q = low_rises G d T.cells s f e h x in
           let o = carries W D T.cells s in
           let ks = notes W (early W o) T.cells in
-          let P = at_low G T k s d f e in
-          by_tick P n h (fresh_bus W D o T.cells s) ks q
-          (via_verdicts W D P.machine ks (lines true o) (ap (λ x. x.wire.last) q) (rising_verdicts W e o T.cells))
-          (silent P (at_rise G T k s o) n (ticks_of_letter * r - ticks_of_low) (Rise o) ks refl (rise_no o)
+          by_tick h q
+          (via_verdicts W D (at_low G T k s d f e).machine ks (lines true o) (ap (λ x. x.wire.last) q) (rising_verdicts W e o T.cells))
+          (silent (Rise o) ks (rose T k r s o (ticks_of_letter * r - ticks_of_low) refl (omega arith) run) refl (rise_no o)
           (ap (λ x. watch (suc k) true x (spell (Some o) (text G T k)))
           (marked_more W never (early_lost o) (early W o) (early_is W o) T.contenders T.cells T.within))
           (tells_none W (early W o) (early_mute W o) T.cells ∙ ap nobody (sym T.armed_as))
           (loses_here T (spell (Some o) (text G T k)) never (early_lost o) (early W o) (early_is W o) k r s run (λ x e. refl)
           (λ x e z. early_behind D x s o e (ap (λ y. heard D y s) z
           ∙ run_carries G T.cells run)))
-          (inl (omega arith)) (rose T k r s o (ticks_of_letter * r - ticks_of_low) refl (omega arith) run))
+          (inl (omega arith)))
 
   tick_high : (T : OpenTurn) (k r g : ℕ) (s : D.S) (d : Bool) (c : Option Bool) (e n h : ℕ) → h ≤ most_count →
       not (some W holds T.cells || D.pulls s) ≡ d → e ≤ most_count → n + ticks_of_low + 1 + e ≡ ticks_of_letter * suc r →
@@ -421,18 +423,18 @@ module _ (G : Game) (Fits : G.script.Task → Type 0) (Rest : G.side.S → Type 
             | inr z ↦ let y = settled_ends G T.cells e T.timed T.living z in cc
           ] in
           let rr = some_r in
-          plain (at_high G T k g s d c e) (at_high G T k g s d c (e + 1)) T.cells n (n - 1) h SteadyHigh T.armed_as
+          plain T.cells h SteadyHigh (high T k r g s d c (e + 1) (n - 1) j (omega arith) (omega arith) m m' v run) T.armed_as
           (settled_stays G d c T.cells s e h T.timed j x) (steady d)
-          (ap (λ ev. verdicts W (looks W (settled W e) T.cells) (shown ev (counted_bit c ev) false)) (steady d) ∙ settled_quiet W e T.cells)
-          refl high_no refl (inl (omega arith))
-          (high T k r g s d c (e + 1) (n - 1) j (omega arith) (omega arith) m m' v run)
+          (ap (λ ev. verdicts W (looks W (settled W e) T.cells) (shown ev (counted_bit c ev) false)) (steady d)
+          ∙ settled_quiet W e T.cells) refl high_no refl (inl (omega arith))
       go true x =
-          let U = advance_turn T (unwrap_or c true) in
-          plain (at_high G T k g s d c e) (at_low G U (suc k) (taken D c s) d (asked c h) 0) T.cells n (ticks_of_letter * r) h Fall T.armed_as
+          let b = unwrap_or c true in
+          plain T.cells h Fall
+          (low (advance_turn T b) (suc k) r (taken D c s) d (asked c h) 0 (ticks_of_letter * r) (asked_to c h hh)
+          (omega arith) (omega arith) run) T.armed_as
           (settled_falls G d c T.cells s e h T.timed j x) refl (settled_fall_quiet W c e T.cells) refl fall_no
-          (ap₂ (λ x y. watch (suc (suc k)) false x (spell None y)) (sym (marked_advance W (unwrap_or c true) T.contenders T.cells)) m)
+          (ap₂ (λ x y. watch (suc (suc k)) false x (spell None y)) (sym (marked_advance W b T.contenders T.cells)) m)
           (inl (omega arith))
-          (low U (suc k) r (taken D c s) d (asked c h) 0 (ticks_of_letter * r) (asked_to c h hh) (omega arith) (omega arith) run)
 
   none_at_stop : (x : Symbol) → late_lost 1 x ≡ false
   none_at_stop x = grind arith
@@ -472,19 +474,19 @@ module _ (G : Game) (Fits : G.script.Task → Type 0) (Rest : G.side.S → Type 
         not (some W holds (stay W j T.cells) || D.pulls s) ≡ b →
         Every W (λ x. (early_lost b x || late_lost j x) ≡ not (eqb (rank x) j)) T.cells → Rises b
     fresh_bit b j c e j4 j1 j2 q f d ev =
-        let P = at_rise G T k s b in
         let U = stay_turn T j e j4 in
-        let Q = at_high G U k k s b (Some b) 1 in
+        let u = settled_bus W D b (Some b) U.cells s 1 in
         let ks = notes W (late W j) T.cells in
-        by_tick P n h Q.machine ks q f
-        (subst (λ x. Fine P n Q.machine x ks) (sym (steady b))
-        (silent P Q n (n - 2) SteadyHigh ks refl high_no
+        by_tick h q f
+        (subst (λ x. Fine (at_rise G T k s b) n u x ks) (sym (steady b))
+        (silent SteadyHigh ks
+        (high U k r k s b (Some b) 1 (n - 2) d (omega arith) (omega arith) spells_on (omega arith)
+        (ap (λ x. x.side) run.runs)
+        (subst (λ x. Slots G U (suc k) r (advance W x U.cells) (D.bit s x)) c
+        (run_bit G T.cells run T.living j e j1 j2))) refl high_no
         (ap (λ x. watch (suc k) true x (spell (Some b) (text G T k))) (marks_late b j ev))
         (tells_none W (late W j) (late_mute W j j1) T.cells ∙ ap nobody (sym T.armed_as))
-        (loses_late (spell (Some b) (text G T k)) b j e (λ p. absurd (j2 p))) (inl (omega arith))
-        (high U k r k s b (Some b) 1 (n - 2) d (omega arith) (omega arith) spells_on (omega arith) (ap (λ x. x.side) run.runs)
-        (subst (λ x. Slots G U (suc k) r (advance W x U.cells) (D.bit s x)) c
-        (run_bit G T.cells run T.living j e j1 j2)))))
+        (loses_late (spell (Some b) (text G T k)) b j e (λ p. absurd (j2 p))) (inl (omega arith))))
       where
         spells_on : text G T k ++ (bit_letter b ∷ []) ≡ text G T (suc k)
         spells_on = spelt (bit_letter b) (letter_bit D leading s (λ z. j1 (sym (led_by j e) ∙ z)) (λ z. j2 (sym (led_by j e) ∙ z))
@@ -495,18 +497,16 @@ module _ (G : Game) (Fits : G.script.Task → Type 0) (Rest : G.side.S → Type 
         tick_verdicts W D (fresh_bus W D true T.cells s) ≡ notes W (late W 2) T.cells →
         Every W (λ x. (early_lost true x || late_lost 2 x) ≡ not (eqb (rank x) 2)) T.cells → Rises true
     fresh_again c e q f ev =
-        let P = at_rise G T k s true in
         let U = stay_turn T 2 e (omega arith) in
-        let Q = at_high G U k (suc k) (D.begin s) false None 0 in
-        by_tick P n h Q.machine (notes W (late W 2) T.cells) q f
-        (silent P Q n (n - 1) Start (notes W (late W 2) T.cells) refl start_no
-        (ap₂ (λ x y. watch (suc k) true x (spell None y)) (marks_late true 2 ev) spells_on)
-        (tells_none W (late W 2) (late_mute W 2 (omega arith)) T.cells ∙ ap nobody (sym T.armed_as))
-        (loses_late (spell None (text G T k ++ (restart ∷ []))) true 2 e (λ p. refl)) (inl (omega arith))
+        by_tick h q f
+        (silent Start (notes W (late W 2) T.cells)
         (high U k r (suc k) (D.begin s) false None 0 (n - 1)
         (ap (λ x. not (x || D.pulls (D.begin s))) (holds_restart W T.cells e)) (omega arith) (omega arith)
         (append-nil (text G T (suc k))) (omega arith) (ap (λ x. x.side) again.runs)
-        (subst (λ x. Slots G U (suc k) r (advance W x U.cells) (D.begin s)) c again)))
+        (subst (λ x. Slots G U (suc k) r (advance W x U.cells) (D.begin s)) c again)) refl start_no
+        (ap₂ (λ x y. watch (suc k) true x (spell None y)) (marks_late true 2 ev) spells_on)
+        (tells_none W (late W 2) (late_mute W 2 (omega arith)) T.cells ∙ ap nobody (sym T.armed_as))
+        (loses_late (spell None (text G T k ++ (restart ∷ []))) true 2 e (λ p. refl)) (inl (omega arith)))
       where
         again : Run G (begins W T.contenders) (D.begin T.rest) (suc k) r
             (cursors W (advance W (carries W D T.cells s) (stay W 2 T.cells))) (D.begin s)
@@ -520,7 +520,7 @@ module _ (G : Game) (Fits : G.script.Task → Type 0) (Rest : G.side.S → Type 
         tick_verdicts W D (fresh_bus W D false T.cells s) ≡ notes W (late W 1) T.cells →
         Every W (λ x. (1 ≤ rank x) × (rank x ≤ 3)) T.cells → Rises false
     fresh_stop e q f ev =
-        by_tick P n h (free_bus W D (finished W T.cells) (D.finish s)) ks q f
+        by_tick h q f
         (record {
           due = ticks_of_turn;
           stands = subst (λ x. StandsAs (point W D (free_bus W D (finished W T.cells) x) (feed G P.booked Stop) (noted W (later P Stop) ks))
