@@ -24,7 +24,7 @@ use Rattle.law.specs.Use.{Call, arms, Use, event_at, marks_of, monitor_after, us
 use Rattle.law.proofs.Alone.IdleBetweenTurns.{Idle}
 use Rattle.law.proofs.Alone.PortsAsSide.{unheld, ports_side, idle_ports}
 use Rattle.law.proofs.Machine.BusAsMachine.{Bus, verdicts, tick, tick_event, tick_verdicts}
-use Rattle.law.proofs.Machine.BookOfMachine.{count, any, answer, answer_if, armed_if, arm_book, task_of, armeds, pulling, arm_masters}
+use Rattle.law.proofs.Machine.BookOfMachine.{count, any, at_place_has, answer, answer_if, armed_if, arm_book, task_of, armeds, pulling, arm_masters}
 use Rattle.law.proofs.Machine.BookOfMachine.{arm_bus, tellings, tick_tells, turned, noted, Book as MachineBook, feed, book_tells}
 use Rattle.law.proofs.Machine.Invariant.{Point, point, arm_point, Stands, arm_stands}
 use Rattle.law.proofs.Machine.InvariantKept.{Real, tick_stands}
@@ -81,10 +81,8 @@ any_one : {A : Type 0} (o w : Option A) (b : Bool) → (is_some o || b) ≡ true
 any_one o w b h = grind arith
 
 any_arm : {A : Type 0} (os ws : List (Option A)) (i : ℕ) → any os ≡ true → any (arm_book os ws i) ≡ true
-any_arm [] ws i h = h
-any_arm (o ∷ os) [] i h = h
-any_arm (o ∷ os) (w ∷ ws) zero h = any_one o w (any os) h
-any_arm (o ∷ os) (w ∷ ws) (suc i) h = grind (arith, any_arm os ws i)
+any_arm = at_place_has armed_if (λ a b. any a ≡ true → any b ≡ true) (λ l h. h) (λ o w l h. any_one o w (any l) h)
+    (λ o l k h e. grind arith)
 
 -- a tick
 step_hosts : (hs : List HostBehaviour) (ms : Bank HostedMaster hs) (s : Signal) →

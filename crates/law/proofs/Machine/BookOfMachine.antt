@@ -35,6 +35,23 @@ count (Some a ∷ l) = suc (count l)
 abbrev pub any : {A : Type 0} → List (Option A) → Bool
 any l = list_any is_some l
 
+-- l with f at the place n, applied to what bs has there too
+abbrev pub at_place : {A B : Type 0} → (A → B → A) → List A → List B → ℕ → List A
+at_place f [] bs n = []
+at_place f (a ∷ l) [] n = a ∷ l
+at_place f (a ∷ l) (b ∷ bs) zero = f a b ∷ l
+at_place f (a ∷ l) (b ∷ bs) (suc n) = a ∷ at_place f l bs n
+
+-- what holds of any list and itself, of f at the head, and of longer lists with the same head
+pub at_place_has : {A B : Type 0} (f : A → B → A) (Q : List A → List A → Type 0) → ((l : List A) → Q l l) →
+    ((a : A) (b : B) (l : List A) → Q (a ∷ l) (f a b ∷ l)) → ((a : A) (l k : List A) → Q l k → Q (a ∷ l) (a ∷ k)) →
+    (l : List A) (bs : List B) (n : ℕ) → Q l (at_place f l bs n)
+at_place_has f Q same here on [] bs n = same []
+at_place_has f Q same here on (a ∷ l) [] n = same (a ∷ l)
+at_place_has f Q same here on (a ∷ l) (b ∷ bs) zero = here a b l
+at_place_has f Q same here on (a ∷ l) (b ∷ bs) (suc n) =
+    on a l (at_place f l bs n) (at_place_has f Q same here on l bs n)
+
 -- arm, by the table: no such master, armed already, nothing wanted
 abbrev pub answer_if : {A : Type 0} → Option A → Option A → Answer
 answer_if (Some q) w = Err 6
@@ -52,10 +69,7 @@ answer (o ∷ os) (w ∷ ws) zero = answer_if o w
 answer (o ∷ os) (w ∷ ws) (suc i) = answer os ws i
 
 abbrev pub arm_book : {A : Type 0} → List (Option A) → List (Option A) → ℕ → List (Option A)
-arm_book [] ws i = []
-arm_book (o ∷ os) [] i = o ∷ os
-arm_book (o ∷ os) (w ∷ ws) zero = armed_if o w ∷ os
-arm_book (o ∷ os) (w ∷ ws) (suc i) = o ∷ arm_book os ws i
+arm_book os ws i = at_place armed_if os ws i
 
 abbrev pub nobody : {A B : Type 0} → List (Option A) → List (Option B)
 nobody os = map (λ o. None) os
@@ -97,10 +111,7 @@ module _ (W : Script) where
   tellings ks = map telling ks
 
   abbrev pub arm_masters : List (MasterModel W) → Tasks W → ℕ → List (MasterModel W)
-  arm_masters [] ws i = []
-  arm_masters (m ∷ ms) [] i = m ∷ ms
-  arm_masters (m ∷ ms) (w ∷ ws) zero = (arm_master W m w).1 ∷ ms
-  arm_masters (m ∷ ms) (w ∷ ws) (suc i) = m ∷ arm_masters ms ws i
+  arm_masters ms ws i = at_place (λ m w. (arm_master W m w).1) ms ws i
 
   -- where each contender begins
   abbrev pub begin_one : Option W.Task → Option W.Cursor

@@ -10,8 +10,8 @@ use Rattle.master.specs.Script.{Script}
 use Rattle.law.proofs.Machine.PhasesOfSlot.{rank, Cell, out, live, looks, notes, cursor, cursors, some, alive, Every}
 use Rattle.law.proofs.Machine.PhasesOfSlot.{Timed, who, stay, advance, finished, claim_all}
 use Rattle.law.proofs.Machine.Arbitration.{at}
-use Rattle.law.proofs.Machine.BookOfMachine.{Tasks, count, any, armed_if, arm_book, nobody, task_of, armeds, pulling}
-use Rattle.law.proofs.Machine.BookOfMachine.{is_lost, telling, tellings, arm_masters, begins, falses, marks_too}
+use Rattle.law.proofs.Machine.BookOfMachine.{Tasks, count, any, at_place, at_place_has, armed_if, arm_book, nobody}
+use Rattle.law.proofs.Machine.BookOfMachine.{task_of, armeds, pulling, is_lost, telling, tellings, arm_masters, begins, falses, marks_too}
 
 pub armed_same : {A : Type 0} → (o w : Option A) → is_some o ≡ true → armed_if o w ≡ o
 armed_same o w h = grind arith
@@ -214,10 +214,7 @@ module _ (W : Script) where
   arm_cell (live m p) w = live m p
 
   abbrev pub arm_cells : List (Cell W) → Tasks W → ℕ → List (Cell W)
-  arm_cells [] ws i = []
-  arm_cells (c ∷ cs) [] i = c ∷ cs
-  arm_cells (c ∷ cs) (w ∷ ws) zero = arm_cell c w ∷ cs
-  arm_cells (c ∷ cs) (w ∷ ws) (suc i) = c ∷ arm_cells cs ws i
+  arm_cells cs ws i = at_place arm_cell cs ws i
 
   arm_none : (a : Arming W.Task) (w : Option W.Task) → is_some (task_of W a) ≡ true → (arming_after_arm a w).1 ≡ a
   arm_none a w h = grind arith
@@ -245,18 +242,12 @@ module _ (W : Script) where
   arm_armeds (c ∷ cs) (w ∷ ws) (suc i) h = grind (arith, arm_armeds cs)
 
   pub arm_timed : (cs : List (Cell W)) (ws : Tasks W) (i : ℕ) → Timed W cs → Timed W (arm_cells cs ws i)
-  arm_timed [] ws i t = tt
-  arm_timed (c ∷ cs) [] i t = t
-  arm_timed (out m ∷ cs) (w ∷ ws) zero t = grind arith
-  arm_timed (live m p ∷ cs) (w ∷ ws) zero t = t
-  arm_timed (c ∷ cs) (w ∷ ws) (suc i) t = (t.0, arm_timed cs ws i t.1)
+  arm_timed = at_place_has arm_cell (λ a b. Timed W a → Timed W b) (λ cs t. t) (λ c w cs t. grind arith)
+      (λ c cs ds h t. (t.0, h t.1))
 
   pub arm_holding : (cs : List (Cell W)) (ws : Tasks W) (i : ℕ) → Holding W cs → Holding W (arm_cells cs ws i)
-  arm_holding [] ws i h = tt
-  arm_holding (c ∷ cs) [] i h = h
-  arm_holding (out m ∷ cs) (w ∷ ws) zero h = h
-  arm_holding (live m p ∷ cs) (w ∷ ws) zero h = h
-  arm_holding (c ∷ cs) (w ∷ ws) (suc i) h = grind (arith, arm_holding cs)
+  arm_holding = at_place_has arm_cell (λ a b. Holding W a → Holding W b) (λ cs h. h) (λ c w cs h. grind arith)
+      (λ c cs ds k h. grind arith)
 
   pub arm_within : (l : Tasks W) (cs : List (Cell W)) (ws : Tasks W) (i : ℕ) → Within W l cs →
       Within W l (arm_cells cs ws i)
@@ -270,18 +261,12 @@ module _ (W : Script) where
 
   pub arm_some : (f : Symbol → Bool) (cs : List (Cell W)) (ws : Tasks W) (i : ℕ) →
       some W f (arm_cells cs ws i) ≡ some W f cs
-  arm_some f [] ws i = refl
-  arm_some f (c ∷ cs) [] i = refl
-  arm_some f (out m ∷ cs) (w ∷ ws) zero = refl
-  arm_some f (live m p ∷ cs) (w ∷ ws) zero = refl
-  arm_some f (c ∷ cs) (w ∷ ws) (suc i) = grind (arith, arm_some f cs)
+  arm_some f = at_place_has arm_cell (λ a b. some W f b ≡ some W f a) (λ cs. refl) (λ c w cs. grind arith)
+      (λ c cs ds h. grind arith)
 
   pub arm_cursors : (cs : List (Cell W)) (ws : Tasks W) (i : ℕ) → cursors W (arm_cells cs ws i) ≡ cursors W cs
-  arm_cursors [] ws i = refl
-  arm_cursors (c ∷ cs) [] i = refl
-  arm_cursors (out m ∷ cs) (w ∷ ws) zero = refl
-  arm_cursors (live m p ∷ cs) (w ∷ ws) zero = refl
-  arm_cursors (c ∷ cs) (w ∷ ws) (suc i) = ap (λ l. cursor W c ∷ l) (arm_cursors cs ws i)
+  arm_cursors = at_place_has arm_cell (λ a b. cursors W b ≡ cursors W a) (λ cs. refl) (λ c w cs. grind arith)
+      (λ c cs ds h. ap (λ l. cursor W c ∷ l) h)
 
   pub arm_marked : (f : Symbol → Bool) (l : Tasks W) (cs : List (Cell W)) (ws : Tasks W) (i : ℕ) →
       marked W f l cs ≡ marked W f l (arm_cells cs ws i)
@@ -294,8 +279,5 @@ module _ (W : Script) where
 
   pub arm_advance : (b : Bool) (cs : List (Cell W)) (ws : Tasks W) (i : ℕ) →
       cursors W (advance W b (arm_cells cs ws i)) ≡ cursors W (advance W b cs)
-  arm_advance b [] ws i = refl
-  arm_advance b (c ∷ cs) [] i = refl
-  arm_advance b (out m ∷ cs) (w ∷ ws) zero = refl
-  arm_advance b (live m p ∷ cs) (w ∷ ws) zero = refl
-  arm_advance b (c ∷ cs) (w ∷ ws) (suc i) = grind (arith, arm_advance b cs)
+  arm_advance b = at_place_has arm_cell (λ x y. cursors W (advance W b y) ≡ cursors W (advance W b x)) (λ cs. refl)
+      (λ c w cs. grind arith) (λ c cs ds h. grind arith)
