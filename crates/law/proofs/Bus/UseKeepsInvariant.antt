@@ -1,6 +1,6 @@
 -- The invariant of a use of the bus: every arm and every tick keeps it, and so many ticks tell an outcome.
-use Rattle.std.proofs.Common.{◌≡◌, ℕ, zero, suc, ◌+◌, ◌<◌, ◌≤◌, cond, Bool, true, false, ◌||◌, ◌⊎◌, List, [], ◌∷◌, is_ok, is_some, Option}
-use Rattle.std.proofs.Common.{Result, sym, refl, ap, ◌∙◌, subst, ap₂, inl, inr, le_refl, arith}
+use Rattle.std.proofs.Common.{◌≡◌, ℕ, zero, suc, ◌+◌, ◌<◌, ◌≤◌, cond, Bool, true, false, ◌||◌, ◌⊎◌, List, [], ◌∷◌}
+use Rattle.std.proofs.Common.{is_ok, is_some, Option, Result, sym, refl, ap, ◌∙◌, subst, ap₂, inl, inr, le_refl, arith}
 use Rattle.std.specs.Prelude.{slice_index_or}
 use Rattle.device.specs.Device.{Behaviour}
 use Rattle.host.specs.Host.{HostBehaviour}
@@ -20,20 +20,24 @@ use Rattle.law.specs.Bus.{arm_master_at, arm_at, HoldAnswers, BusModel, levels_a
 use Rattle.law.specs.Legal.{IsLegal}
 use Rattle.law.specs.Limits.{ticks_of_turn}
 use Rattle.law.specs.Monitor.{Monitor, monitor_after_marks}
-use Rattle.law.specs.Use.{Call, arms, Use, event_at, marks_of, monitor_after, use_after_tick, use_after_call, use_after, ticks_of}
+use Rattle.law.specs.Use.{Call, arms, Use, event_at, marks_of, monitor_after, use_after_tick, use_after_call, use_after}
+use Rattle.law.specs.Use.{ticks_of}
 use Rattle.law.proofs.Alone.IdleBetweenTurns.{Idle}
 use Rattle.law.proofs.Alone.PortsAsSide.{unheld, ports_side, idle_ports}
 use Rattle.law.proofs.Machine.BusAsMachine.{Bus, verdicts, tick, tick_event, tick_verdicts}
-use Rattle.law.proofs.Machine.BookOfMachine.{count, any, at_place_has, answer, answer_if, armed_if, arm_book, task_of, armeds, pulling, arm_masters}
-use Rattle.law.proofs.Machine.BookOfMachine.{arm_bus, tellings, tick_tells, turned, noted, Book as MachineBook, feed, book_tells}
+use Rattle.law.proofs.Machine.BookOfMachine.{count, any, at_place_has, answer, answer_if, armed_if, arm_book, task_of}
+use Rattle.law.proofs.Machine.BookOfMachine.{armeds, pulling, arm_masters, arm_bus, tellings, tick_tells, turned, noted}
+use Rattle.law.proofs.Machine.BookOfMachine.{Book as MachineBook, feed, book_tells}
 use Rattle.law.proofs.Machine.Invariant.{Point, point, arm_point, Stands, arm_stands}
 use Rattle.law.proofs.Machine.InvariantKept.{Real, tick_stands}
 use Rattle.law.proofs.Machine.InvariantSays.{stands_armed, stands_side, stands_out, stands_left}
-use Rattle.law.proofs.Bus.BookAsMachine.{machine_book, booked, armed_booked, Sound, tasks, meanings, arm_tasks, arm_meanings, arm_answers}
-use Rattle.law.proofs.Bus.BookAsMachine.{armed_sound, fed_booked, fed_sound, heard_after, tells_booked}
+use Rattle.law.proofs.Bus.BookAsMachine.{machine_book, booked, armed_booked, Sound, tasks, meanings, arm_tasks}
+use Rattle.law.proofs.Bus.BookAsMachine.{arm_meanings, arm_answers, armed_sound, fed_booked, fed_sound, heard_after}
+use Rattle.law.proofs.Bus.BookAsMachine.{tells_booked}
 use Rattle.law.proofs.Bus.CallsKeep.{calls_keep}
 use Rattle.law.proofs.Bus.HostsAsOne.{Meanings, want_of, wants_of, legal_wants, hears_all, plays}
-use Rattle.law.proofs.Bus.TickAsMachine.{masters_of, seen, LetGo, levels_seen, answer_at, answer_small, tick_seen, still_let_go}
+use Rattle.law.proofs.Bus.TickAsMachine.{masters_of, seen, LetGo, levels_seen, answer_at, answer_small, tick_seen}
+use Rattle.law.proofs.Bus.TickAsMachine.{still_let_go}
 use Rattle.law.proofs.Bus.MonitorAsMachine.{watched_as, marked_as, told_as, how_many_is}
 use Rattle.law.proofs.Bus.TransfersAsGame.{game}
 

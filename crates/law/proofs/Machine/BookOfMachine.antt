@@ -1,6 +1,6 @@
 -- The book beside the machine, by lists: who is armed, who contends and who is told; what its monitor notes; and what a tick shows.
-use Rattle.std.proofs.Common.{◌≡◌, ℕ, zero, suc, ◌≤◌, Bool, true, false, cond, not, ◌||◌, List, [], ◌∷◌, ◌++◌, is_some, Some, None, Ok, Err}
-use Rattle.std.proofs.Common.{Option, Result, map}
+use Rattle.std.proofs.Common.{◌≡◌, ℕ, zero, suc, ◌≤◌, Bool, true, false, cond, not, ◌||◌, List, [], ◌∷◌, ◌++◌, is_some}
+use Rattle.std.proofs.Common.{Some, None, Ok, Err, Option, Result, map}
 use Rattle.std.specs.Prelude.{slice_index_or}
 use Rattle.std.specs.List.{list_any}
 use Rattle.std.specs.Option.{option_map}

@@ -11,7 +11,8 @@ use Rattle.law.proofs.Machine.PhasesOfSlot.{rank, Cell, out, live, looks, notes,
 use Rattle.law.proofs.Machine.PhasesOfSlot.{Timed, who, stay, advance, finished, claim_all}
 use Rattle.law.proofs.Machine.Arbitration.{at}
 use Rattle.law.proofs.Machine.BookOfMachine.{Tasks, count, any, at_place, at_place_has, armed_if, arm_book, nobody}
-use Rattle.law.proofs.Machine.BookOfMachine.{task_of, armeds, pulling, is_lost, telling, tellings, arm_masters, begins, falses, marks_too}
+use Rattle.law.proofs.Machine.BookOfMachine.{task_of, armeds, pulling, is_lost, telling, tellings, arm_masters, begins}
+use Rattle.law.proofs.Machine.BookOfMachine.{falses, marks_too}
 
 pub armed_same : {A : Type 0} → (o w : Option A) → is_some o ≡ true → armed_if o w ≡ o
 armed_same o w h = grind arith

@@ -1,6 +1,6 @@
 -- The invariant of a machine and its book, between any two arms and ticks; and that an arm keeps it.
-use Rattle.std.proofs.Common.{◌≡◌, ℕ, zero, suc, ◌+◌, ◌-◌, ◌*◌, ◌≤◌, Bool, true, false, not, ◌||◌, ◌++◌, ◌⊎◌, List, [], ◌∷◌, Some, None, Option}
-use Rattle.std.proofs.Common.{unwrap_or, sym, refl, ap, ◌∙◌, subst, inl, inr, arith}
+use Rattle.std.proofs.Common.{◌≡◌, ℕ, zero, suc, ◌+◌, ◌-◌, ◌*◌, ◌≤◌, Bool, true, false, not, ◌||◌, ◌++◌, ◌⊎◌, List, []}
+use Rattle.std.proofs.Common.{◌∷◌, Some, None, Option, unwrap_or, sym, refl, ap, ◌∙◌, subst, inl, inr, arith}
 use Rattle.master.specs.declared.symbol.Symbol.{Symbol}
 use Rattle.master.specs.MasterState.{MasterModel}
 use Rattle.master.specs.Script.{Script}
@@ -11,14 +11,15 @@ use Rattle.law.specs.Letter.{Letter}
 use Rattle.law.specs.Monitor.{Monitor, letters_of_bit}
 use Rattle.law.proofs.FarSide.{Side, taken}
 use Rattle.law.proofs.Machine.BusAsMachine.{Bus}
-use Rattle.law.proofs.Machine.PhasesOfSlot.{holds, early_lost, Cell, looks, cursors, idling, claimed, opened, lowered, fresh, settled, some}
-use Rattle.law.proofs.Machine.PhasesOfSlot.{alive, Timed, advance, free_bus, claimed_bus, opened_bus, low_bus, fresh_bus, settled_bus}
-use Rattle.law.proofs.Machine.PhasesOfSlot.{carries}
+use Rattle.law.proofs.Machine.PhasesOfSlot.{holds, early_lost, Cell, looks, cursors, idling, claimed, opened, lowered}
+use Rattle.law.proofs.Machine.PhasesOfSlot.{fresh, settled, some, alive, Timed, advance, free_bus, claimed_bus}
+use Rattle.law.proofs.Machine.PhasesOfSlot.{opened_bus, low_bus, fresh_bus, settled_bus, carries}
 use Rattle.law.proofs.Machine.Arbitration.{at, slots, opened as opens_at}
 use Rattle.law.proofs.Machine.BookOfMachine.{Tasks, armed_if, arm_book, arm_masters, begins, Book, book, Spell}
 use Rattle.law.proofs.Machine.BookOfMachine.{spell, watch, arm_bus}
-use Rattle.law.proofs.Machine.CellsOfTurn.{cell_armeds, Holding, Within, marked, never, arm_cells, arm_looks, arm_armeds, arm_timed}
-use Rattle.law.proofs.Machine.CellsOfTurn.{arm_holding, arm_within, arm_some, arm_cursors, arm_marked, arm_advance}
+use Rattle.law.proofs.Machine.CellsOfTurn.{cell_armeds, Holding, Within, marked, never, arm_cells, arm_looks}
+use Rattle.law.proofs.Machine.CellsOfTurn.{arm_armeds, arm_timed, arm_holding, arm_within, arm_some, arm_cursors}
+use Rattle.law.proofs.Machine.CellsOfTurn.{arm_marked, arm_advance}
 use Rattle.law.proofs.Machine.SlotsOfTurn.{Run, spelled}
 use Rattle.law.proofs.Machine.Game.{Game}
 
@@ -111,15 +112,16 @@ module _ (G : Game) where
     abbrev pub at_start : Turn Fits Rest → ℕ → Point W D
     at_start T e = in_turn never T (opened_bus W D T.cells (D.begin T.rest) e) 0 false (spell None [])
 
-    -- the slot k with the side s; d: the last level of SDA; h: the hold asked for at the fall; e ticks of the low are gone
+    -- in the low of slot k, e ticks of which are gone; s: the side; d: the last level of SDA; h: the hold asked for
     abbrev pub at_low : Turn Fits Rest → ℕ → D.S → Bool → ℕ → ℕ → Point W D
     at_low T k s d h e = in_turn never T (low_bus W D d T.cells s h e) (suc k) false (spell None (text T k))
 
-    -- it carries b
+    -- at its rise; it carries b
     abbrev pub at_rise : Turn Fits Rest → ℕ → D.S → Bool → Point W D
     at_rise T k s b = in_turn (early_lost b) T (fresh_bus W D b T.cells s) (suc k) true (spell (Some b) (text T k))
 
-    -- c: the bit that counts at the next fall; after a repeated start none does. g slots are spelled, and e ticks of the high are gone
+    -- in its high, e ticks of which are gone, and g slots are spelled; c: the bit that counts at the next fall; after a
+    -- repeated start none does
     abbrev pub at_high : Turn Fits Rest → ℕ → ℕ → D.S → Bool → Option Bool → ℕ → Point W D
     at_high T k g s d c e = in_turn never T (settled_bus W D d c T.cells s e) (suc k) true (spell c (text T g))
 
@@ -129,18 +131,22 @@ module _ (G : Game) where
       idle : (os : Tasks W) (s : D.S) (w : Monitor) (cs : List (Cell W)) →
           os ≡ cell_armeds W cs → Timed W cs → Holding W cs → Rest s → Ready Fits os →
           Stands (at_rest os s w cs) ticks_of_turn
-      claims : (T : Turn Fits Rest) → Slots T 0 most_letters T.cells (D.begin T.rest) → Stands (at_claim T) (ticks_of_turn - 1)
+      claims : (T : Turn Fits Rest) → Slots T 0 most_letters T.cells (D.begin T.rest) →
+          Stands (at_claim T) (ticks_of_turn - 1)
       -- the two ticks of the claim and of the start are gone
       begun : (T : Turn Fits Rest) (e n : ℕ) → e ≤ most_count → n + 2 + e ≡ ticks_of_turn →
           Slots T 0 most_letters T.cells (D.begin T.rest) → Stands (at_start T e) n
       -- r letters are left at the most, this one among them
       low : (T : Turn Fits Rest) (k r : ℕ) (s : D.S) (d : Bool) (h e n : ℕ) →
-          h ≤ most_count → e ≤ most_count → n + e ≡ ticks_of_letter * r → Slots T k r T.cells s → Stands (at_low T k s d h e) n
+          h ≤ most_count → e ≤ most_count → n + e ≡ ticks_of_letter * r → Slots T k r T.cells s →
+          Stands (at_low T k s d h e) n
       rose : (T : Turn Fits Rest) (k r : ℕ) (s : D.S) (b : Bool) (n : ℕ) →
-          carries W D T.cells s ≡ b → n + ticks_of_low ≡ ticks_of_letter * r → Slots T k r T.cells s → Stands (at_rise T k s b) n
+          carries W D T.cells s ≡ b → n + ticks_of_low ≡ ticks_of_letter * r → Slots T k r T.cells s →
+          Stands (at_rise T k s b) n
       -- the tick after the rise is gone too; the side is that of the slots spelled
       high : (T : Turn Fits Rest) (k r g : ℕ) (s : D.S) (d : Bool) (c : Option Bool) (e n : ℕ) →
-          not (some W holds T.cells || D.pulls s) ≡ d → e ≤ most_count → n + ticks_of_low + 1 + e ≡ ticks_of_letter * suc r →
+          not (some W holds T.cells || D.pulls s) ≡ d → e ≤ most_count →
+          n + ticks_of_low + 1 + e ≡ ticks_of_letter * suc r →
           text T g ++ letters_of_bit c ≡ text T (suc k) → g ≤ suc k →
           (slots G g (opens_at G (begins W T.contenders) (D.begin T.rest))).side ≡ s →
           Slots T (suc k) r (advance W (unwrap_or c true) T.cells) (taken D c s) → Stands (at_high T k g s d c e) n
@@ -158,28 +164,29 @@ module _ (G : Game) where
         armed_ready = arm_ready Fits T.armed ws i wants T.armed_ready;
       }
 
-      arm_slots : (T : Turn Fits Rest) {k r : ℕ} {s : D.S} → Slots T k r T.cells s → Slots (arm_turn T) k r (arm_turn T).cells s
+      arm_slots : (T : Turn Fits Rest) {k r : ℕ} {s : D.S} → Slots T k r T.cells s →
+          Slots (arm_turn T) k r (arm_turn T).cells s
       arm_slots T {k} {r} {s} q = subst (λ ps. Run G (begins W T.contenders) (D.begin T.rest) k r ps s)
           (sym (arm_cursors W T.cells ws i)) q
 
       -- f: what each live master looks like in its phase
       arm_phase : (f : MasterModel W → W.Cursor → MasterModel W)
-          (keeps : (m : MasterModel W) (p : W.Cursor) → (f m p).arming ≡ m.arming) (u : Bus W D) {b : Book W D} {w : Monitor} {n : ℕ}
-          (cs : List (Cell W)) → Holding W cs →
+          (keeps : (m : MasterModel W) (p : W.Cursor) → (f m p).arming ≡ m.arming) (u : Bus W D) {b : Book W D}
+          {w : Monitor} {n : ℕ} (cs : List (Cell W)) → Holding W cs →
           Stands (point W D (record u { masters = looks W f (arm_cells W cs ws i) }) b w) n →
           Stands (point W D (record u { masters = arm_masters W (looks W f cs) ws i }) b w) n
       arm_phase f keeps u {b} {w} {n} cs h =
           subst (λ ms. Stands (point W D (record u { masters = ms }) b w) n) (sym (arm_looks W f keeps cs ws i h))
 
       arm_in_turn : (lost : Symbol → Bool) (f : MasterModel W → W.Cursor → MasterModel W)
-          (keeps : (m : MasterModel W) (p : W.Cursor) → (f m p).arming ≡ m.arming) (u : Bus W D) (T : Turn Fits Rest) {k : ℕ}
-          {risen : Bool} {sp : Spell} {n : ℕ} →
+          (keeps : (m : MasterModel W) (p : W.Cursor) → (f m p).arming ≡ m.arming) (u : Bus W D) (T : Turn Fits Rest)
+          {k : ℕ} {risen : Bool} {sp : Spell} {n : ℕ} →
           Stands (in_turn lost (arm_turn T) (record u { masters = looks W f (arm_turn T).cells }) k risen sp) n →
           Stands (arm_point W D (in_turn lost T (record u { masters = looks W f T.cells }) k risen sp) ws i) n
       arm_in_turn lost f keeps u T {k} {risen} {sp} {n} st =
           let b : Book W D = book W D (arm_turn T).armed T.rest (Some T.contenders) in
-          arm_phase f keeps u T.cells T.holding
-          (subst (λ v. Stands (point W D (record u { masters = looks W f (arm_turn T).cells }) b (watch k risen v sp)) n)
+          let u' : Bus W D = record u { masters = looks W f (arm_turn T).cells } in
+          arm_phase f keeps u T.cells T.holding (subst (λ v. Stands (point W D u' b (watch k risen v sp)) n)
           (sym (arm_marked W lost T.contenders T.cells ws i)) st)
 
       -- an arm in any phase
@@ -193,12 +200,14 @@ module _ (G : Game) where
       arm_stands P _ (begun T e n b c q) =
           arm_in_turn never (opened W e) (λ m p. refl) P.machine T (begun (arm_turn T) e n b c (arm_slots T q))
       arm_stands P _ (low T k r s d h e n b b' c q) =
-          arm_in_turn never (lowered W e) (λ m p. refl) P.machine T (low (arm_turn T) k r s d h e n b b' c (arm_slots T q))
+          arm_in_turn never (lowered W e) (λ m p. refl) P.machine T
+          (low (arm_turn T) k r s d h e n b b' c (arm_slots T q))
       arm_stands P _ (rose T k r s b n j c q) =
           arm_in_turn (early_lost b) (fresh W b) (fresh_keeps W b) P.machine T
-          (rose (arm_turn T) k r s b n (ap (λ x. not (x || D.pulls s)) (arm_some W pulls_sda T.cells ws i) ∙ j) c (arm_slots T q))
+          (rose (arm_turn T) k r s b n (ap (λ x. not (x || D.pulls s)) (arm_some W pulls_sda T.cells ws i) ∙ j) c
+          (arm_slots T q))
       arm_stands P _ (high T k r g s d c e n j o z m m' v q) =
           arm_in_turn never (settled W e) (λ m p. refl) P.machine T
-          (high (arm_turn T) k r g s d c e n (ap (λ x. not (x || D.pulls s)) (arm_some W holds T.cells ws i) ∙ j) o z m m' v
-          (subst (λ ps. Run G (begins W T.contenders) (D.begin T.rest) (suc k) r ps (taken D c s))
+          (high (arm_turn T) k r g s d c e n (ap (λ x. not (x || D.pulls s)) (arm_some W holds T.cells ws i) ∙ j)
+          o z m m' v (subst (λ ps. Run G (begins W T.contenders) (D.begin T.rest) (suc k) r ps (taken D c s))
           (sym (arm_advance W (unwrap_or c true) T.cells ws i)) q))

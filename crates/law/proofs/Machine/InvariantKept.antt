@@ -1,6 +1,7 @@
 -- A tick keeps the invariant, tells whom the book tells, marks whom it may, and brings an outcome nearer.
-use Rattle.std.proofs.Common.{◌≡◌, ℕ, zero, suc, ◌+◌, ◌-◌, ◌*◌, ◌<◌, ◌≤◌, Bool, true, false, cond, not, ◌||◌, eqb, ◌⊎◌, List, [], ◌∷◌, ◌++◌}
-use Rattle.std.proofs.Common.{is_some, Some, None, Option, unwrap_or, sym, refl, ap, ◌∙◌, subst, ap₂, inl, inr, append-nil, arith}
+use Rattle.std.proofs.Common.{◌≡◌, ℕ, zero, suc, ◌+◌, ◌-◌, ◌*◌, ◌<◌, ◌≤◌, Bool, true, false, cond, not, ◌||◌, eqb, ◌⊎◌}
+use Rattle.std.proofs.Common.{List, [], ◌∷◌, ◌++◌, is_some, Some, None, Option, unwrap_or, sym, refl, ap, ◌∙◌, subst}
+use Rattle.std.proofs.Common.{ap₂, inl, inr, append-nil, arith}
 use Rattle.std.specs.Prelude.{slice_index_or}
 use Rattle.std.proofs.lemmas.Bool.Decides.{nat_tests as tells}
 use Rattle.std.proofs.lemmas.Bool.{cases_lt}
@@ -18,34 +19,39 @@ use Rattle.law.specs.Letter.{Letter, stop, restart, bit_letter}
 use Rattle.law.specs.Monitor.{Monitor, letters_of_bit}
 use Rattle.law.proofs.FarSide.{Side, heard, letter, taken}
 use Rattle.law.proofs.Machine.BusAsMachine.{any_scl, verdicts, asked, Bus, tick, tick_event, said, tick_verdicts}
-use Rattle.law.proofs.Machine.PhasesOfSlot.{lines, shown, rank, holds, early_lost, late_lost, Cell, looks, notes, no_verdict, early, late}
-use Rattle.law.proofs.Machine.PhasesOfSlot.{cursors, opened, settled, some, Every, Timed, least, stay, advance, finished, claim_all}
-use Rattle.law.proofs.Machine.PhasesOfSlot.{free_bus, claimed_bus, fresh_bus, settled_bus, carries, held, Shape}
+use Rattle.law.proofs.Machine.PhasesOfSlot.{lines, shown, rank, holds, early_lost, late_lost, Cell, looks, notes}
+use Rattle.law.proofs.Machine.PhasesOfSlot.{no_verdict, early, late, cursors, opened, settled, some, Every, Timed}
+use Rattle.law.proofs.Machine.PhasesOfSlot.{least, stay, advance, finished, claim_all, free_bus, claimed_bus, fresh_bus}
+use Rattle.law.proofs.Machine.PhasesOfSlot.{settled_bus, carries, held, Shape}
 use Rattle.law.proofs.Machine.Arbitration.{at, lead, slots, opened as opens_at, Quiet}
-use Rattle.law.proofs.Machine.BookOfMachine.{Tasks, count, any, nobody, disarm, is_lost, telling, tellings, begins, task_string, leader}
-use Rattle.law.proofs.Machine.BookOfMachine.{wins, outcomes, leader_side, Book, book, feed, book_tells, Spell, spell, watch, falses}
-use Rattle.law.proofs.Machine.BookOfMachine.{marks_too, turned, noted, Loses, Stopped, Spelled, Plays}
+use Rattle.law.proofs.Machine.BookOfMachine.{Tasks, count, any, nobody, disarm, is_lost, telling, tellings, begins}
+use Rattle.law.proofs.Machine.BookOfMachine.{task_string, leader, wins, outcomes, leader_side, Book, book, feed}
+use Rattle.law.proofs.Machine.BookOfMachine.{book_tells, Spell, spell, watch, falses, marks_too, turned, noted, Loses}
+use Rattle.law.proofs.Machine.BookOfMachine.{Stopped, Spelled, Plays}
 use Rattle.law.proofs.Machine.EventForAll.{rank_top, every, least_below, via_verdicts}
 use Rattle.law.proofs.Machine.TickWhileLow.{low_stays, low_rises, low_ends}
-use Rattle.law.proofs.Machine.TickWhileHigh.{opened_stays, opened_falls, opened_ends, settled_stays, settled_falls, settled_ends}
+use Rattle.law.proofs.Machine.TickWhileHigh.{opened_stays, opened_falls, opened_ends, settled_stays, settled_falls}
+use Rattle.law.proofs.Machine.TickWhileHigh.{settled_ends}
 use Rattle.law.proofs.Machine.TickOfStart.{free_claims, free_stays, claimed_starts}
 use Rattle.law.proofs.Machine.TickAfterRise.{shaped, fresh_zero, fresh_end, fresh_restart, fresh_one, fresh_listen}
-use Rattle.law.proofs.Machine.VerdictsElsewhere.{lowered_quiet, rising_verdicts, settled_quiet, settled_fall_quiet, opened_quiet}
-use Rattle.law.proofs.Machine.VerdictsElsewhere.{opened_fall_quiet, claimed_quiet, idle_quiet}
-use Rattle.law.proofs.Machine.SurvivorsOfSlot.{timed_stay, timed_advance, timed_finished, alive_advance, alive_stay, alive_least}
-use Rattle.law.proofs.Machine.SurvivorsOfSlot.{holds_zero, holds_restart, holds_not}
+use Rattle.law.proofs.Machine.VerdictsElsewhere.{lowered_quiet, rising_verdicts, settled_quiet, settled_fall_quiet}
+use Rattle.law.proofs.Machine.VerdictsElsewhere.{opened_quiet, opened_fall_quiet, claimed_quiet, idle_quiet}
+use Rattle.law.proofs.Machine.SurvivorsOfSlot.{timed_stay, timed_advance, timed_finished, alive_advance, alive_stay}
+use Rattle.law.proofs.Machine.SurvivorsOfSlot.{alive_least, holds_zero, holds_restart, holds_not}
 use Rattle.law.proofs.Machine.LeadingSymbol.{rank_inj}
-use Rattle.law.proofs.Machine.CellsOfTurn.{count_nobody, cell_armeds, Holding, Within, marked, never, armeds_stay, armeds_advance}
-use Rattle.law.proofs.Machine.CellsOfTurn.{holding_stay, holding_advance, within_stay, within_advance, holding_finished, armeds_claim}
-use Rattle.law.proofs.Machine.CellsOfTurn.{cursors_claim, timed_claim, holding_claim, within_claim, alive_claim, marked_claim, marked_more}
-use Rattle.law.proofs.Machine.CellsOfTurn.{marked_stay, marked_advance, note_at, unmarked, contender, tells_none}
-use Rattle.law.proofs.Machine.SlotsOfTurn.{Run, spells, letter_bit, letter_again, letter_stop, leads, alive_at, some_left}
-use Rattle.law.proofs.Machine.SlotsOfTurn.{run_shape, run_carries, run_bit, run_again}
-use Rattle.law.proofs.Machine.SlotsTellLeast.{task_at, leader_in, loses_at, wins_least, least_wins, stop_side, stop_spells}
-use Rattle.law.proofs.Machine.Invariant.{Ready, Point, point, Turn, Slots, text, marks, at_rest, at_claim, at_start, at_low}
-use Rattle.law.proofs.Machine.Invariant.{at_rise, at_high, Stands, idle, claims, begun, low, rose, high}
-use Rattle.law.proofs.Machine.TickOfStop.{ending, tells_end, armeds_finished, counts_end, somebody_told, disarmed, tells_unmarked}
-use Rattle.law.proofs.Machine.TickOfStop.{outcome_at, told_at_stop}
+use Rattle.law.proofs.Machine.CellsOfTurn.{count_nobody, cell_armeds, Holding, Within, marked, never, armeds_stay}
+use Rattle.law.proofs.Machine.CellsOfTurn.{armeds_advance, holding_stay, holding_advance, within_stay, within_advance}
+use Rattle.law.proofs.Machine.CellsOfTurn.{holding_finished, armeds_claim, cursors_claim, timed_claim, holding_claim}
+use Rattle.law.proofs.Machine.CellsOfTurn.{within_claim, alive_claim, marked_claim, marked_more, marked_stay}
+use Rattle.law.proofs.Machine.CellsOfTurn.{marked_advance, note_at, unmarked, contender, tells_none}
+use Rattle.law.proofs.Machine.SlotsOfTurn.{Run, spells, letter_bit, letter_again, letter_stop, leads, alive_at}
+use Rattle.law.proofs.Machine.SlotsOfTurn.{some_left, run_shape, run_carries, run_bit, run_again}
+use Rattle.law.proofs.Machine.SlotsTellLeast.{task_at, leader_in, loses_at, wins_least, least_wins, stop_side}
+use Rattle.law.proofs.Machine.SlotsTellLeast.{stop_spells}
+use Rattle.law.proofs.Machine.Invariant.{Ready, Point, point, Turn, Slots, text, marks, at_rest, at_claim, at_start}
+use Rattle.law.proofs.Machine.Invariant.{at_low, at_rise, at_high, Stands, idle, claims, begun, low, rose, high}
+use Rattle.law.proofs.Machine.TickOfStop.{ending, tells_end, armeds_finished, counts_end, somebody_told, disarmed}
+use Rattle.law.proofs.Machine.TickOfStop.{tells_unmarked, outcome_at, told_at_stop}
 use Rattle.law.proofs.Machine.Game.{Game}
 
 asked_to : (k : Option Bool) (h : ℕ) → h ≤ most_count → asked k h ≤ most_count
@@ -72,7 +78,8 @@ steady true = refl
 steady false = refl
 
 -- who is marked in a slot: all who do not show the least symbol
-slot_low : (n : ℕ) → n ≤ 1 → (x : Symbol) → (n ≤ rank x) × (rank x ≤ 3) → (early_lost false x || late_lost n x) ≡ not (eqb (rank x) n)
+slot_low : (n : ℕ) → n ≤ 1 → (x : Symbol) → (n ≤ rank x) × (rank x ≤ 3) →
+    (early_lost false x || late_lost n x) ≡ not (eqb (rank x) n)
 slot_low n h x q = grind (arith, tells)
 
 slot_high : (n : ℕ) → 2 ≤ n → n ≤ 3 → (x : Symbol) → (n ≤ rank x) × (rank x ≤ 3) →
@@ -120,7 +127,8 @@ module _ (W : Script) where
   late_is n symbol.Zero p = refl
   late_is n symbol.Listen p = refl
   late_is n symbol.RepeatedStart p = refl
-  late_is n symbol.Stop p = lost_if (eqb n 0) (cond (eqb n 1) (told (W.outcome p)) quiet) (told_lost (eqb n 1) (W.outcome p))
+  late_is n symbol.Stop p =
+      lost_if (eqb n 0) (cond (eqb n 1) (told (W.outcome p)) quiet) (told_lost (eqb n 1) (W.outcome p))
   late_is n symbol.One p = lost_if (eqb n 2) quiet refl
 
   early_mute : (b : Bool) (x : Symbol) (p : W.Cursor) → telling W (early W b x p) ≡ None
@@ -164,14 +172,15 @@ module _ (G : Game) (Fits : G.script.Task → Type 0) (Rest : G.side.S → Type 
   abbrev tells_then : Point W D → Event → List (Option W.Outcome)
   tells_then P e = book_tells G P.booked e
 
-  -- what a tick to the bus u with the event e and the verdicts ks does; due: how many ticks are then left at the most until an
-  -- outcome is told
+  -- what a tick to the bus u with the event e and the verdicts ks does; due: how many ticks are then left at the most
+  -- until an outcome is told
   pub record Fine (P : Point W D) (n : ℕ) (u : Bus W D) (e : Event) (ks : List (VerdictModel W)) : Type 0 where
     pub due : ℕ
     pub stands : StandsAs (point W D u (feed G P.booked e) (noted W (later P e) ks)) due
     pub tells : tellings W ks ≡ tells_then P e
     pub counts : count (feed G P.booked e).armed + count (tells_then P e) ≡ count P.booked.armed
-    pub loses : (i : ℕ) → slice_index_or ks i quiet ≡ lost → Loses G P.booked.turn P.booked.side P.monitor.marked (later P e) i
+    pub loses : (i : ℕ) → slice_index_or ks i quiet ≡ lost →
+        Loses G P.booked.turn P.booked.side P.monitor.marked (later P e) i
     pub stops : e ≡ Stop → (l : Tasks W) → P.booked.turn ≡ Some l → (i : ℕ) (p : W.Task) → at l i ≡ Some p →
         Stopped G l P.booked.side P.monitor.marked (tellings W ks) i p
     pub spelled : e ≡ Stop → (l : Tasks W) → P.booked.turn ≡ Some l → Spelled G l P.booked.side (later P e).spelled
@@ -190,7 +199,8 @@ module _ (G : Game) (Fits : G.script.Task → Type 0) (Rest : G.side.S → Type 
       (subst (λ x. Fine P n x (event_between P.machine.wire.last x.wire.last) ks) (sym a) f)
 
   -- only a stop is told
-  quiet_book : (b : Book W D) (e : Event) → (e ≡ Stop → ⊥) → ((feed G b e).armed ≡ b.armed) × (book_tells G b e ≡ nobody b.armed)
+  quiet_book : (b : Book W D) (e : Event) → (e ≡ Stop → ⊥) →
+      ((feed G b e).armed ≡ b.armed) × (book_tells G b e ≡ nobody b.armed)
   quiet_book b Stop n = absurd (n refl)
   quiet_book b SteadyHigh n = (refl, refl)
   quiet_book b (Rise x) n = (refl, refl)
@@ -221,7 +231,10 @@ module _ (G : Game) (Fits : G.script.Task → Type 0) (Rest : G.side.S → Type 
 
   no_loses : (t : Option (Tasks W)) (s : D.S) (v : List Bool) (w : Monitor) (cs : List (Cell W)) (i : ℕ) →
       slice_index_or (notes W (no_verdict W) cs) i quiet ≡ lost → Loses G t s v w i
-  no_loses t s v w cs i h = let a = note_at W (no_verdict W) cs i h in let b : ◌≡◌ {A = VerdictModel W} quiet lost = a.2 in cc
+  no_loses t s v w cs i h =
+      let a = note_at W (no_verdict W) cs i h in
+      let b : ◌≡◌ {A = VerdictModel W} quiet lost = a.2 in
+      cc
 
   -- a tick with no verdict
   plain : {P Q : Point W D} {n n' : ℕ} (cs : List (Cell W)) (h : ℕ) (e : Event) → StandsAs Q n' →
@@ -260,7 +273,8 @@ module _ (G : Game) (Fits : G.script.Task → Type 0) (Rest : G.side.S → Type 
     within = within_advance W b T.contenders T.cells T.within;
   }
 
-  first_run : (os : Tasks W) (s : D.S) → Rest s → Ready Fits os → Run G (begins W os) (D.begin s) 0 most_letters (begins W os) (D.begin s)
+  first_run : (os : Tasks W) (s : D.S) → Rest s → Ready Fits os →
+      Run G (begins W os) (D.begin s) 0 most_letters (begins W os) (D.begin s)
   first_run os s q y = record {
     runs = refl;
     fair = record { small = small; alike = alike };
@@ -270,16 +284,21 @@ module _ (G : Game) (Fits : G.script.Task → Type 0) (Rest : G.side.S → Type 
   }
     where
       small : (i : ℕ) (p : W.Cursor) → at (begins W os) i ≡ Some p → G.left p ≤ most_letters
-      small i p e = let t = task_at W os i p e in subst (λ x. G.left x ≤ most_letters) t.2 (plays.short t.0 (y i t.0 t.1))
+      small i p e =
+          let t = task_at W os i p e in
+          subst (λ x. G.left x ≤ most_letters) t.2 (plays.short t.0 (y i t.0 t.1))
 
       alike : (i k : ℕ) (p r : W.Cursor) → at (begins W os) i ≡ Some p → at (begins W os) k ≡ Some r → G.Alike p r
       alike i k p r e d =
           let t = task_at W os i p e in
           let u = task_at W os k r d in
-          subst (λ x. G.Alike x r) t.2 (subst (λ x. G.Alike (W.begin t.0) x) u.2 (plays.alike t.0 u.0 (y i t.0 t.1) (y k u.0 u.1)))
+          subst (λ x. G.Alike x r) t.2
+          (subst (λ x. G.Alike (W.begin t.0) x) u.2 (plays.alike t.0 u.0 (y i t.0 t.1) (y k u.0 u.1)))
 
       silent_side : (i : ℕ) (p : W.Cursor) → at (begins W os) i ≡ Some p → Quiet G p (D.begin s)
-      silent_side i p e = let t = task_at W os i p e in subst (λ x. Quiet G x (D.begin s)) t.2 (plays.quiet t.0 s (y i t.0 t.1) q)
+      silent_side i p e =
+          let t = task_at W os i p e in
+          subst (λ x. Quiet G x (D.begin s)) t.2 (plays.quiet t.0 s (y i t.0 t.1) q)
 
   tick_idle : (os : Tasks W) (s : D.S) (w : Monitor) (cs : List (Cell W)) (h : ℕ) → os ≡ cell_armeds W cs → Timed W cs →
       Holding W cs → Rest s → Ready Fits os → Real (at_rest G os s w cs) ticks_of_turn h
@@ -396,25 +415,28 @@ module _ (G : Game) (Fits : G.script.Task → Type 0) (Rest : G.side.S → Type 
           let o = carries W D T.cells s in
           let ks = notes W (early W o) T.cells in
           by_tick h q
-          (via_verdicts W D (at_low G T k s d f e).machine ks (lines true o) (ap (λ x. x.wire.last) q) (rising_verdicts W e o T.cells))
-          (silent (Rise o) ks (rose T k r s o (ticks_of_letter * r - ticks_of_low) refl (omega arith) run) refl (rise_no o)
+          (via_verdicts W D (at_low G T k s d f e).machine ks (lines true o) (ap (λ x. x.wire.last) q)
+          (rising_verdicts W e o T.cells))
+          (silent (Rise o) ks (rose T k r s o (ticks_of_letter * r - ticks_of_low) refl (omega arith) run) refl
+          (rise_no o)
           (ap (λ x. watch (suc k) true x (spell (Some o) (text G T k)))
           (marked_more W never (early_lost o) (early W o) (early_is W o) T.contenders T.cells T.within))
           (tells_none W (early W o) (early_mute W o) T.cells ∙ ap nobody (sym T.armed_as))
-          (loses_here T (spell (Some o) (text G T k)) never (early_lost o) (early W o) (early_is W o) k r s run (λ x e. refl)
-          (λ x e z. early_behind D x s o e (ap (λ y. heard D y s) z
+          (loses_here T (spell (Some o) (text G T k)) never (early_lost o) (early W o) (early_is W o) k r s run
+          (λ x e. refl) (λ x e z. early_behind D x s o e (ap (λ y. heard D y s) z
           ∙ run_carries G T.cells run)))
           (inl (omega arith)))
 
   tick_high : (T : OpenTurn) (k r g : ℕ) (s : D.S) (d : Bool) (c : Option Bool) (e n h : ℕ) → h ≤ most_count →
-      not (some W holds T.cells || D.pulls s) ≡ d → e ≤ most_count → n + ticks_of_low + 1 + e ≡ ticks_of_letter * suc r →
+      not (some W holds T.cells || D.pulls s) ≡ d → e ≤ most_count →
+      n + ticks_of_low + 1 + e ≡ ticks_of_letter * suc r →
       text G T g ++ letters_of_bit c ≡ text G T (suc k) → g ≤ suc k →
       (slots G g (opens_at G (begins W T.contenders) (D.begin T.rest))).side ≡ s →
       Slots G T (suc k) r (advance W (unwrap_or c true) T.cells) (taken D c s) → Real (at_high G T k g s d c e) n h
   tick_high T k r g s d c e n h hh j o z m m' v run = go (any_scl W (looks W (settled W e) T.cells)) refl
     where
       some_r : 1 ≤ r
-      some_r = some_left G (advance W (unwrap_or c true) T.cells) run (alive_advance W (unwrap_or c true) T.cells ∙ T.living)
+      some_r = let b = unwrap_or c true in some_left G (advance W b T.cells) run (alive_advance W b T.cells ∙ T.living)
 
       go : (x : Bool) → any_scl W (looks W (settled W e) T.cells) ≡ x → Real (at_high G T k g s d c e) n h
       go false x =
@@ -423,7 +445,8 @@ module _ (G : Game) (Fits : G.script.Task → Type 0) (Rest : G.side.S → Type 
             | inr z ↦ let y = settled_ends G T.cells e T.timed T.living z in cc
           ] in
           let rr = some_r in
-          plain T.cells h SteadyHigh (high T k r g s d c (e + 1) (n - 1) j (omega arith) (omega arith) m m' v run) T.armed_as
+          plain T.cells h SteadyHigh
+          (high T k r g s d c (e + 1) (n - 1) j (omega arith) (omega arith) m m' v run) T.armed_as
           (settled_stays G d c T.cells s e h T.timed j x) (steady d)
           (ap (λ ev. verdicts W (looks W (settled W e) T.cells) (shown ev (counted_bit c ev) false)) (steady d)
           ∙ settled_quiet W e T.cells) refl high_no refl (inl (omega arith))
@@ -457,18 +480,21 @@ module _ (G : Game) (Fits : G.script.Task → Type 0) (Rest : G.side.S → Type 
 
     loses_late : (sp : Spell) (b : Bool) (j : ℕ) → least W T.cells ≡ j → (j ≡ 2 → b ≡ true) → (i : ℕ) →
         slice_index_or (notes W (late W j) T.cells) i quiet ≡ lost →
-        Loses G (Some T.contenders) T.rest (marks G (early_lost b) T) (watch (suc k) true (marks G (early_lost b) T) sp) i
+        Loses G (Some T.contenders) T.rest (marks G (early_lost b) T)
+        (watch (suc k) true (marks G (early_lost b) T) sp) i
     loses_late sp b j e again =
         loses_here T sp (early_lost b) (late_lost j) (late W j) (late_is W j) k (suc r) s run
         (λ x a. late_new j x b again a) (λ x a p. late_behind j x a (ap rank p ∙ led_by j e))
 
     marks_late : (b : Bool) (j : ℕ) → Every W (λ x. (early_lost b x || late_lost j x) ≡ not (eqb (rank x) j)) T.cells →
-        marks_too W (marks G (early_lost b) T) (notes W (late W j) T.cells) ≡ marked W never T.contenders (stay W j T.cells)
+        marks_too W (marks G (early_lost b) T) (notes W (late W j) T.cells) ≡
+        marked W never T.contenders (stay W j T.cells)
     marks_late b j ev =
         marked_more W (early_lost b) (late_lost j) (late W j) (late_is W j) T.contenders T.cells T.within
         ∙ marked_stay W (λ x. early_lost b x || late_lost j x) j T.contenders T.cells ev
 
-    fresh_bit : (b : Bool) (j : ℕ) → carries W D T.cells s ≡ b → least W T.cells ≡ j → j ≤ 4 → (j ≡ 1 → ⊥) → (j ≡ 2 → ⊥) →
+    fresh_bit : (b : Bool) (j : ℕ) → carries W D T.cells s ≡ b → least W T.cells ≡ j → j ≤ 4 →
+        (j ≡ 1 → ⊥) → (j ≡ 2 → ⊥) →
         tick W D (fresh_bus W D b T.cells s) h ≡ settled_bus W D b (Some b) (stay W j T.cells) s 1 →
         tick_verdicts W D (fresh_bus W D b T.cells s) ≡ notes W (late W j) T.cells →
         not (some W holds (stay W j T.cells) || D.pulls s) ≡ b →
@@ -489,7 +515,8 @@ module _ (G : Game) (Fits : G.script.Task → Type 0) (Rest : G.side.S → Type 
         (loses_late (spell (Some b) (text G T k)) b j e (λ p. absurd (j2 p))) (inl (omega arith))))
       where
         spells_on : text G T k ++ (bit_letter b ∷ []) ≡ text G T (suc k)
-        spells_on = spelt (bit_letter b) (letter_bit D leading s (λ z. j1 (sym (led_by j e) ∙ z)) (λ z. j2 (sym (led_by j e) ∙ z))
+        spells_on = spelt (bit_letter b)
+            (letter_bit D leading s (λ z. j1 (sym (led_by j e) ∙ z)) (λ z. j2 (sym (led_by j e) ∙ z))
             ∙ ap bit_letter (run_carries G T.cells run ∙ c))
 
     fresh_again : carries W D T.cells s ≡ true → least W T.cells ≡ 2 →
@@ -523,20 +550,28 @@ module _ (G : Game) (Fits : G.script.Task → Type 0) (Rest : G.side.S → Type 
         by_tick h q f
         (record {
           due = ticks_of_turn;
-          stands = subst (λ x. StandsAs (point W D (free_bus W D (finished W T.cells) x) (feed G P.booked Stop) (noted W (later P Stop) ks))
-              ticks_of_turn) side
-              (idle (disarm T.armed ts) (leader_side G first (D.begin T.rest)) (noted W (later P Stop) ks) (finished W T.cells)
+          stands =
+              let b : Book W D = book W D (disarm T.armed ts) after None in
+              subst (λ x. StandsAs (point W D (free_bus W D cs x) b w) ticks_of_turn) side
+              (idle (disarm T.armed ts) after w cs
               (ap₂ disarm T.armed_as (sym told_is) ∙ sym (armeds_finished W T.cells)) (timed_finished W T.cells T.timed)
               (holding_finished W T.cells) rested (λ j p a. T.armed_ready j p (disarmed T.armed ts j p a).0));
           tells = tells_end W T.cells ∙ told_is;
-          counts = ap₂ (λ a b. count (disarm a b) + count b) T.armed_as (sym told_is) ∙ counts_end W T.cells T.holding
+          counts =
+              ap₂ (λ a b. count (disarm a b) + count b) T.armed_as (sym told_is) ∙ counts_end W T.cells T.holding
               ∙ ap count (sym T.armed_as);
-          loses = λ i b. let w = note_at W (late W 1) T.cells i b in
-              let z : true ≡ false = sym (ap (is_lost W) w.2) ∙ (late_is W 1 (W.symbol w.0) w.0 ∙ none_at_stop (W.symbol w.0)) in cc;
-          stops = λ st l el i p a.
-              let z : T.contenders ≡ l = cc in
-              subst (λ x. Stopped G x T.rest P.monitor.marked (tellings W ks) i p) z (stopped i p (ap (λ x. at x i) z ∙ a));
-          spelled = λ st l el. let z : T.contenders ≡ l = cc in subst (λ x. Spelled G x T.rest (text G T k ++ (stop ∷ []))) z spells_all;
+          loses = λ i b.
+              let v = note_at W (late W 1) T.cells i b in
+              let x = W.symbol v.0 in
+              let z : true ≡ false = sym (ap (is_lost W) v.2) ∙ (late_is W 1 x v.0 ∙ none_at_stop x) in
+              cc;
+          stops = λ st m el i p a.
+              let z : l ≡ m = cc in
+              subst (λ x. Stopped G x T.rest P.monitor.marked (tellings W ks) i p) z
+              (stopped i p (ap (λ x. at x i) z ∙ a));
+          spelled = λ st m el.
+              let z : l ≡ m = cc in
+              subst (λ x. Spelled G x T.rest (text G T k ++ (stop ∷ []))) z spells_all;
           falls = inl (let c = somebody_told W T.cells e in let d = ap count told_is in omega arith);
         })
       where
@@ -549,11 +584,21 @@ module _ (G : Game) (Fits : G.script.Task → Type 0) (Rest : G.side.S → Type 
         l : Tasks W
         l = T.contenders
 
+        -- after the stop
+        cs : List (Cell W)
+        cs = finished W T.cells
+
+        w : Monitor
+        w = noted W (later P Stop) ks
+
         stops_here : rank leading ≡ 1
         stops_here = led_by 1 e
 
         first : Option W.Task
         first = leader G l (D.begin T.rest)
+
+        after : D.S
+        after = leader_side G first (D.begin T.rest)
 
         ts : List (Option W.Outcome)
         ts = outcomes G l first (D.begin T.rest)
@@ -566,7 +611,8 @@ module _ (G : Game) (Fits : G.script.Task → Type 0) (Rest : G.side.S → Type 
             let w : is_some (at (tellings W ks) i) ≡ wins G p first (D.begin T.rest) =
             ap (λ x. is_some (at x i)) (tells_end W T.cells ∙ told_is) ∙ outcome_at G first (D.begin T.rest) l i p a in
             record {
-              unmarked = ap (λ x. is_some (at x i)) (tells_end W T.cells) ∙ tells_unmarked W l T.cells T.within ev i p a;
+              unmarked = ap (λ x. is_some (at x i)) (tells_end W T.cells)
+                  ∙ tells_unmarked W l T.cells T.within ev i p a;
               least = λ h. wins_least G l run i p a (sym w ∙ h);
               wins = λ h. w ∙ least_wins G l run i p a h;
             }
@@ -578,9 +624,10 @@ module _ (G : Game) (Fits : G.script.Task → Type 0) (Rest : G.side.S → Type 
         led : (x : W.Task) × (first ≡ Some x) × (text G T (suc k) ≡ task_string G x (D.begin T.rest))
         led = stop_spells G l run stops_here one.0 one.1.0 one.1.1
 
-        rested : Rest (leader_side G first (D.begin T.rest))
+        rested : Rest after
         rested = let j = leader_in G l (D.begin T.rest) led.0 led.1 in
-            subst (λ o. Rest (leader_side G o (D.begin T.rest))) (sym led.1) (plays.rests led.0 T.rest (T.ready j.0 led.0 j.1) T.rested)
+            subst (λ o. Rest (leader_side G o (D.begin T.rest))) (sym led.1)
+            (plays.rests led.0 T.rest (T.ready j.0 led.0 j.1) T.rested)
 
         spells_all : Spelled G l T.rest (text G T k ++ (stop ∷ []))
         spells_all = record {
@@ -589,14 +636,15 @@ module _ (G : Game) (Fits : G.script.Task → Type 0) (Rest : G.side.S → Type 
           whole = spelt stop (letter_stop D leading s stops_here) ∙ led.2;
         }
 
-        side : leader_side G first (D.begin T.rest) ≡ D.finish s
+        side : after ≡ D.finish s
         side = stop_side G l run stops_here one.0 one.1.0 one.1.1
 
     -- b is what the slot carries, so it is what the least symbol shows
     rises_as : (b c : Bool) → carries W D T.cells s ≡ b → carries W D T.cells s ≡ c → Rises c → Rises b
     rises_as b c e f z = subst Rises (sym f ∙ e) z
 
-    rises : (b : Bool) → carries W D T.cells s ≡ b → Shape W D T.cells s → (j : ℕ) → least W T.cells ≡ j → j ≤ 4 → Rises b
+    rises : (b : Bool) → carries W D T.cells s ≡ b → Shape W D T.cells s → (j : ℕ) → least W T.cells ≡ j → j ≤ 4 →
+        Rises b
     rises b c q zero e j4 =
         let x = fresh_zero G T.cells s h T.timed q e in
         let w = shaped G 0 T.cells s (omega arith) e q in
@@ -625,10 +673,12 @@ module _ (G : Game) (Fits : G.script.Task → Type 0) (Rest : G.side.S → Type 
     rises b c q (suc (suc (suc (suc zero)))) e j4 =
         let d = not (D.pulls s) in
         let x = fresh_listen G d T.cells s h T.timed e refl in
-        let w = every W (λ x. 4 ≤ rank x) (λ x. rank x ≡ 4) (λ x h. omega (arith, rank_top x)) T.cells (least_below W 4 T.cells (omega arith)) in
+        let w = every W (λ x. 4 ≤ rank x) (λ x. rank x ≡ 4) (λ x h. omega (arith, rank_top x)) T.cells
+        (least_below W 4 T.cells (omega arith)) in
         let o = holds_not W 4 T.cells (omega arith) e in
         rises_as b d c x.0 (fresh_bit d 4 x.0 e j4 (omega arith) (omega arith) x.1 x.2 (cc)
-        (every W (λ x. rank x ≡ 4) (λ x. (early_lost d x || late_lost 4 x) ≡ not (eqb (rank x) 4)) (slot_listen d) T.cells w))
+        (every W (λ x. rank x ≡ 4) (λ x. (early_lost d x || late_lost 4 x) ≡ not (eqb (rank x) 4)) (slot_listen d)
+        T.cells w))
     rises b c q (suc (suc (suc (suc (suc j))))) e j4 = absurd (omega arith)
 
   tick_rises : (T : OpenTurn) (k r : ℕ) (s : D.S) (b : Bool) (n h : ℕ) → carries W D T.cells s ≡ b →

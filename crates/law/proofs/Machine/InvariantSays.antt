@@ -34,14 +34,16 @@ module _ (G : Game) (Fits : G.script.Task → Type 0) (Rest : G.side.S → Type 
   stands_armed _ _ (begun T e n b c q) = armeds_looks W (opened W e) (λ m p. refl) T.cells ∙ sym T.armed_as
   stands_armed _ _ (low T k r s d h e n b b' c q) = armeds_looks W (lowered W e) (λ m p. refl) T.cells ∙ sym T.armed_as
   stands_armed _ _ (rose T k r s b n j c q) = armeds_looks W (fresh W b) (fresh_keeps W b) T.cells ∙ sym T.armed_as
-  stands_armed _ _ (high T k r g s d c e n j o z m m' v q) = armeds_looks W (settled W e) (λ m p. refl) T.cells ∙ sym T.armed_as
+  stands_armed _ _ (high T k r g s d c e n j o z m m' v q) =
+      armeds_looks W (settled W e) (λ m p. refl) T.cells ∙ sym T.armed_as
 
   pub stands_side : (P : Point W D) (n : ℕ) → Stands G Fits Rest P n → P.machine.wire.busy ≡ false →
       P.machine.side ≡ P.booked.side
   stands_side P n h k = grind arith
 
   -- where no turn is open
-  pub stands_at_rest : (P : Point W D) (n : ℕ) → Stands G Fits Rest P n → P.booked.turn ≡ None → P.machine.side ≡ P.booked.side
+  pub stands_at_rest : (P : Point W D) (n : ℕ) → Stands G Fits Rest P n → P.booked.turn ≡ None →
+      P.machine.side ≡ P.booked.side
   stands_at_rest P n h k = grind arith
 
   pub stands_out : (P : Point W D) (n : ℕ) → Stands G Fits Rest P n → is_some P.booked.turn ≡ true →
@@ -54,7 +56,8 @@ module _ (G : Game) (Fits : G.script.Task → Type 0) (Rest : G.side.S → Type 
   stands_out _ _ (low T k r s d f e n b b' c q) h i z =
       pulls_nothing W never (lowered W e) (never_out W (lowered W e)) T.contenders T.cells i z
   stands_out _ _ (rose T k r s b n j c q) h i z =
-      pulls_nothing W (early_lost b) (fresh W b) (λ m p. rise_out W (released W m p) p (W.symbol p) b) T.contenders T.cells i z
+      pulls_nothing W (early_lost b) (fresh W b) (λ m p. rise_out W (released W m p) p (W.symbol p) b)
+      T.contenders T.cells i z
   stands_out _ _ (high T k r g s d c e n j o z' m m' v q) h i z =
       pulls_nothing W never (settled W e) (never_out W (settled W e)) T.contenders T.cells i z
 
