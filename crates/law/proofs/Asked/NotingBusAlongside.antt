@@ -20,8 +20,6 @@ use Rattle.law.specs.TransferResult.{AddressedDevice}
 use Rattle.law.specs.Monitor.{Monitor, new_monitor, monitor_after_event, monitor_after_marks}
 use Rattle.law.specs.Use.{lists_appended, Call, arms, ticks, Use, event_at, marks_of, steps_at, no_steps, steps_then, use_after_tick, use_after_call, use_after, addressed_device, new_use}
 use Rattle.law.specs.Law.{Law}
-use Rattle.law.proofs.Alone.IdleBetweenTurns.{Idle}
-use Rattle.law.specs.Legal.{IsLegal}
 use Rattle.law.proofs.Alone.PortsAsSide.{unheld, idle_ports}
 use Rattle.law.proofs.Asked.RecordAfterA.{noted_by}
 use Rattle.law.proofs.Machine.InvariantSays.{stands_at_rest}
@@ -30,7 +28,7 @@ use Rattle.law.proofs.Bus.EveryUseLawful.{every_use_lawful, every_use_stands}
 use Rattle.law.proofs.Bus.BookAsMachine.{contenders, turn_if}
 use Rattle.law.proofs.Asked.DeviceMaps.{pulls_to, port_places, device_places}
 use Rattle.law.proofs.Asked.NotesAreAsks.{longer_longer, length_longer, forgetting, bare_devices, bare_ports, length_noted, noted_unheld, noted_idle, bare_placed, same_holds, steps_noted, steps_bare, with_notes, new_bare}
-use Rattle.law.proofs.Bus.UseKeepsInvariant.{seen_use, StandsAt}
+use Rattle.law.proofs.Bus.UseKeepsInvariant.{StandsAt}
 use Rattle.law.proofs.Bus.TransfersAsGame.{game}
 
 module _ (hs : List HostBehaviour) where
@@ -130,7 +128,7 @@ is_stop SteadyLow = inr (λ e. cc)
 -- where no turn is open the ports, but for what they hold, are those of the book's devices
 pub ports_at_rest : (hs : List HostBehaviour) (ds : List Behaviour) (x : Use hs ds) → StandsAt hs ds x → x.book.turn ≡ closed → bank_map unheld ds x.bus.ports ≡ idle_ports ds x.book.devices
 ports_at_rest hs ds x st e =
-    stands_at_rest (game ds) IsLegal (Idle ds) (seen_use hs ds x) st.0 st.1 (ap (λ v. turn_if v (contenders hs x.book.entries)) e)
+    stands_at_rest (game ds) st.1 (ap (λ v. turn_if v (contenders hs x.book.entries)) e)
 
 longer_nothing : (ds : List Behaviour) (d : Bank AddressedDevice (all_noting_steps ds)) (p : Bank PortModel ds) → lists_appended (all_steps ds d) (bank_list (λ b q. []) ds p) ≡ all_steps ds d
 longer_nothing [] d p = refl

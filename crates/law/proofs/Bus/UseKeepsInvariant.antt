@@ -131,17 +131,17 @@ module _ (hs : List HostBehaviour) (ds : List Behaviour) where
     e = tick_event transfers (ports_side ds) u
 
     pub armed_as : armeds transfers (masters_of hs x.bus.masters) ≡ tasks hs x.book.entries
-    armed_as = stands_armed (game ds) IsLegal (Idle ds) P n k.stands
+    armed_as = stands_armed (game ds) k.stands
 
     pub side_as : x.bus.wire.busy ≡ false → bank_map unheld ds x.bus.ports ≡ idle_ports ds x.book.devices
-    side_as = stands_side (game ds) IsLegal (Idle ds) P n k.stands
+    side_as = stands_side (game ds) k.stands
 
     pub marked_pull_none : is_some b.turn ≡ true → (i : ℕ) → slice_index_or x.watch.marked i false ≡ true →
         pulling transfers (masters_of hs x.bus.masters) i ≡ false
-    marked_pull_none = stands_out (game ds) IsLegal (Idle ds) P n k.stands
+    marked_pull_none = stands_out (game ds) k.stands
 
     pub few_left : n ≤ ticks_of_turn
-    few_left = stands_left (game ds) IsLegal (Idle ds) P n k.stands
+    few_left = stands_left (game ds) k.stands
 
     pub answers_as : (i : ℕ) → (arm_at hs ds x.bus i).0 ≡ (book_arm hs ds x.book i).0
     answers_as i = arm_answer_is hs x.bus.masters i
@@ -168,7 +168,7 @@ module _ (hs : List HostBehaviour) (ds : List Behaviour) where
           let_go = k.let_go;
           sound = armed_sound hs ds x.book i k.sound;
           stands = subst (λ z. StandsThere z n) (sym (arm_point_as i))
-              (arm_stands (game ds) IsLegal (Idle ds) (wants_of hs m) (legal_wants hs m) i P n k.stands);
+              (arm_stands (game ds) IsLegal (Idle ds) (wants_of hs m) (legal_wants hs m) i k.stands);
           hosts = arm_hosts hs x.bus.masters i ∙ (k.hosts ∙ sym (arm_meanings hs es i));
           counts =
               let a = ap accepted_one (answers_as i ∙ arm_answers hs es i k.sound.kept) in
@@ -182,7 +182,7 @@ module _ (hs : List HostBehaviour) (ds : List Behaviour) where
     Next h = Real (game ds) IsLegal (Idle ds) (plays ds) P n h
 
     pub next : (h : ℕ) → h ≤ most_count → Next h
-    next h l = tick_stands (game ds) IsLegal (Idle ds) (plays ds) P n h l k.stands
+    next h l = tick_stands (game ds) IsLegal (Idle ds) (plays ds) h l k.stands
 
     pub tells_as : told_at hs ds x.bus ≡ book_told hs ds x.book (event_at hs ds x.bus)
     tells_as = told_seen x.bus ∙ ((next 0 (omega arith)).tells

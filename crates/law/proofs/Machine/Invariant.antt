@@ -190,23 +190,23 @@ module _ (G : Game) where
           (sym (arm_marked W lost T.contenders T.cells ws i)) st)
 
       -- an arm in any phase
-      pub arm_stands : (P : Point W D) (n : ℕ) → Stands P n → Stands (arm_point W D P ws i) n
-      arm_stands P _ (idle os s w cs a t g q y) =
+      pub arm_stands : {P : Point W D} {n : ℕ} → Stands P n → Stands (arm_point W D P ws i) n
+      arm_stands {P} (idle os s w cs a t g q y) =
           arm_phase (idling W) (λ m p. refl) P.machine cs g
           (idle (arm_book os ws i) s w (arm_cells W cs ws i) (ap (λ x. arm_book x ws i) a ∙ arm_armeds W cs ws i g)
           (arm_timed W cs ws i t) (arm_holding W cs ws i g) q (arm_ready Fits os ws i wants y))
-      arm_stands P _ (claims T q) =
+      arm_stands {P} (claims T q) =
           arm_in_turn never (claimed W) (λ m p. refl) P.machine T (claims (arm_turn T) (arm_slots T q))
-      arm_stands P _ (begun T e n b c q) =
+      arm_stands {P} (begun T e n b c q) =
           arm_in_turn never (opened W e) (λ m p. refl) P.machine T (begun (arm_turn T) e n b c (arm_slots T q))
-      arm_stands P _ (low T k r s d h e n b b' c q) =
+      arm_stands {P} (low T k r s d h e n b b' c q) =
           arm_in_turn never (lowered W e) (λ m p. refl) P.machine T
           (low (arm_turn T) k r s d h e n b b' c (arm_slots T q))
-      arm_stands P _ (rose T k r s b n j c q) =
+      arm_stands {P} (rose T k r s b n j c q) =
           arm_in_turn (early_lost b) (fresh W b) (fresh_keeps W b) P.machine T
           (rose (arm_turn T) k r s b n (ap (λ x. not (x || D.pulls s)) (arm_some W pulls_sda T.cells ws i) ∙ j) c
           (arm_slots T q))
-      arm_stands P _ (high T k r g s d c e n j o z m m' v q) =
+      arm_stands {P} (high T k r g s d c e n j o z m m' v q) =
           arm_in_turn never (settled W e) (λ m p. refl) P.machine T
           (high (arm_turn T) k r g s d c e n (ap (λ x. not (x || D.pulls s)) (arm_some W holds T.cells ws i) ∙ j)
           o z m m' v (subst (λ ps. Run G (begins W T.contenders) (D.begin T.rest) (suc k) r ps (taken D c s))

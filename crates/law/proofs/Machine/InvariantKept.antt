@@ -690,10 +690,10 @@ module _ (G : Game) (Fits : G.script.Task → Type 0) (Rest : G.side.S → Type 
       (least W T.cells) refl (alive_least W T.cells T.living)
 
   -- a tick in any phase
-  pub tick_stands : (P : Point W D) (n h : ℕ) → h ≤ most_count → StandsAs P n → Real P n h
-  tick_stands _ _ h hh (idle os s w cs a t g q y) = tick_idle os s w cs h a t g q y
-  tick_stands _ _ h hh (claims T q) = tick_claims T h q
-  tick_stands _ _ h hh (begun T e n b c q) = tick_begun T e n h b c q
-  tick_stands _ _ h hh (low T k r s d f e n b b' c q) = tick_low T k r s d f e n h b b' c q
-  tick_stands _ _ h hh (rose T k r s b n j c q) = tick_rises T k r s b n h j c q
-  tick_stands _ _ h hh (high T k r g s d c e n j o z m m' v q) = tick_high T k r g s d c e n h hh j o z m m' v q
+  pub tick_stands : {P : Point W D} {n : ℕ} (h : ℕ) → h ≤ most_count → StandsAs P n → Real P n h
+  tick_stands h hh (idle os s w cs a t g q y) = tick_idle os s w cs h a t g q y
+  tick_stands h hh (claims T q) = tick_claims T h q
+  tick_stands h hh (begun T e n b c q) = tick_begun T e n h b c q
+  tick_stands h hh (low T k r s d f e n b b' c q) = tick_low T k r s d f e n h b b' c q
+  tick_stands h hh (rose T k r s b n j c q) = tick_rises T k r s b n h j c q
+  tick_stands h hh (high T k r g s d c e n j o z m m' v q) = tick_high T k r g s d c e n h hh j o z m m' v q

@@ -21,45 +21,46 @@ module _ (W : Script) where
       ((g m p).pulls.scl || (g m p).pulls.sda) ≡ false
   never_out g m p h = cc
 
-module _ (G : Game) (Fits : G.script.Task → Type 0) (Rest : G.side.S → Type 0) where
+module _ (G : Game) where
   abbrev W : Script
   W = G.script
 
   abbrev D : Side
   D = G.side
 
-  pub stands_armed : (P : Point W D) (n : ℕ) → Stands G Fits Rest P n → armeds W P.machine.masters ≡ P.booked.armed
-  stands_armed _ _ (idle os s w cs a t g q y) = armeds_looks W (idling W) (λ m p. refl) cs ∙ sym a
-  stands_armed _ _ (claims T q) = armeds_looks W (claimed W) (λ m p. refl) T.cells ∙ sym T.armed_as
-  stands_armed _ _ (begun T e n b c q) = armeds_looks W (opened W e) (λ m p. refl) T.cells ∙ sym T.armed_as
-  stands_armed _ _ (low T k r s d h e n b b' c q) = armeds_looks W (lowered W e) (λ m p. refl) T.cells ∙ sym T.armed_as
-  stands_armed _ _ (rose T k r s b n j c q) = armeds_looks W (fresh W b) (fresh_keeps W b) T.cells ∙ sym T.armed_as
-  stands_armed _ _ (high T k r g s d c e n j o z m m' v q) =
-      armeds_looks W (settled W e) (λ m p. refl) T.cells ∙ sym T.armed_as
+  module _ {Fits : W.Task → Type 0} {Rest : D.S → Type 0} where
+    pub stands_armed : {P : Point W D} {n : ℕ} → Stands G Fits Rest P n → armeds W P.machine.masters ≡ P.booked.armed
+    stands_armed (idle os s w cs a t g q y) = armeds_looks W (idling W) (λ m p. refl) cs ∙ sym a
+    stands_armed (claims T q) = armeds_looks W (claimed W) (λ m p. refl) T.cells ∙ sym T.armed_as
+    stands_armed (begun T e n b c q) = armeds_looks W (opened W e) (λ m p. refl) T.cells ∙ sym T.armed_as
+    stands_armed (low T k r s d h e n b b' c q) = armeds_looks W (lowered W e) (λ m p. refl) T.cells ∙ sym T.armed_as
+    stands_armed (rose T k r s b n j c q) = armeds_looks W (fresh W b) (fresh_keeps W b) T.cells ∙ sym T.armed_as
+    stands_armed (high T k r g s d c e n j o z m m' v q) =
+        armeds_looks W (settled W e) (λ m p. refl) T.cells ∙ sym T.armed_as
 
-  pub stands_side : (P : Point W D) (n : ℕ) → Stands G Fits Rest P n → P.machine.wire.busy ≡ false →
-      P.machine.side ≡ P.booked.side
-  stands_side P n h k = grind arith
+    pub stands_side : {P : Point W D} {n : ℕ} → Stands G Fits Rest P n → P.machine.wire.busy ≡ false →
+        P.machine.side ≡ P.booked.side
+    stands_side h k = grind arith
 
-  -- where no turn is open
-  pub stands_at_rest : (P : Point W D) (n : ℕ) → Stands G Fits Rest P n → P.booked.turn ≡ None →
-      P.machine.side ≡ P.booked.side
-  stands_at_rest P n h k = grind arith
+    -- where no turn is open
+    pub stands_at_rest : {P : Point W D} {n : ℕ} → Stands G Fits Rest P n → P.booked.turn ≡ None →
+        P.machine.side ≡ P.booked.side
+    stands_at_rest h k = grind arith
 
-  pub stands_out : (P : Point W D) (n : ℕ) → Stands G Fits Rest P n → is_some P.booked.turn ≡ true →
-      (i : ℕ) → slice_index_or P.monitor.marked i false ≡ true → pulling W P.machine.masters i ≡ false
-  stands_out _ _ (idle os s w cs a t g q y) h i z = cc
-  stands_out _ _ (claims T q) h i z =
-      pulls_nothing W never (claimed W) (never_out W (claimed W)) T.contenders T.cells i z
-  stands_out _ _ (begun T e n b c q) h i z =
-      pulls_nothing W never (opened W e) (never_out W (opened W e)) T.contenders T.cells i z
-  stands_out _ _ (low T k r s d f e n b b' c q) h i z =
-      pulls_nothing W never (lowered W e) (never_out W (lowered W e)) T.contenders T.cells i z
-  stands_out _ _ (rose T k r s b n j c q) h i z =
-      pulls_nothing W (early_lost b) (fresh W b) (λ m p. rise_out W (released W m p) p (W.symbol p) b)
-      T.contenders T.cells i z
-  stands_out _ _ (high T k r g s d c e n j o z' m m' v q) h i z =
-      pulls_nothing W never (settled W e) (never_out W (settled W e)) T.contenders T.cells i z
+    pub stands_out : {P : Point W D} {n : ℕ} → Stands G Fits Rest P n → is_some P.booked.turn ≡ true →
+        (i : ℕ) → slice_index_or P.monitor.marked i false ≡ true → pulling W P.machine.masters i ≡ false
+    stands_out (idle os s w cs a t g q y) h i z = cc
+    stands_out (claims T q) h i z =
+        pulls_nothing W never (claimed W) (never_out W (claimed W)) T.contenders T.cells i z
+    stands_out (begun T e n b c q) h i z =
+        pulls_nothing W never (opened W e) (never_out W (opened W e)) T.contenders T.cells i z
+    stands_out (low T k r s d f e n b b' c q) h i z =
+        pulls_nothing W never (lowered W e) (never_out W (lowered W e)) T.contenders T.cells i z
+    stands_out (rose T k r s b n j c q) h i z =
+        pulls_nothing W (early_lost b) (fresh W b) (λ m p. rise_out W (released W m p) p (W.symbol p) b)
+        T.contenders T.cells i z
+    stands_out (high T k r g s d c e n j o z' m m' v q) h i z =
+        pulls_nothing W never (settled W e) (never_out W (settled W e)) T.contenders T.cells i z
 
-  pub stands_left : (P : Point W D) (n : ℕ) → Stands G Fits Rest P n → n ≤ ticks_of_turn
-  stands_left P n h = grind arith
+    pub stands_left : {P : Point W D} {n : ℕ} → Stands G Fits Rest P n → n ≤ ticks_of_turn
+    stands_left h = grind arith
