@@ -37,7 +37,8 @@ new_masters : (hs : List HostBehaviour) (ms : Bank HostedMaster hs) →
 new_masters [] ms = refl
 new_masters (h ∷ hs) ms = grind (arith, new_masters hs)
 
-new_timed : (hs : List HostBehaviour) (ms : Bank HostedMaster hs) → ClocksInRange hs ms → Timed transfers (new_cells hs ms)
+new_timed : (hs : List HostBehaviour) (ms : Bank HostedMaster hs) → ClocksInRange hs ms →
+    Timed transfers (new_cells hs ms)
 new_timed [] ms c = tt
 new_timed (h ∷ hs) ms c = grind (arith, new_timed hs)
 
@@ -83,16 +84,23 @@ module _ (hs : List HostBehaviour) (ds : List Behaviour) (ms : Bank HostedMaster
   abbrev first : Use hs ds
   first = new_use hs ds ms ps
 
-  first_seen : seen hs ds first.bus ≡ free_bus transfers (ports_side ds) (new_cells hs ms) (idle_ports ds first.book.devices)
-  first_seen = λ i. record { wire = first.bus.wire; masters = new_masters hs ms i; side = new_ports ds ps i; hold = new_holds ds ps i }
+  first_seen : seen hs ds first.bus ≡
+      free_bus transfers (ports_side ds) (new_cells hs ms) (idle_ports ds first.book.devices)
+  first_seen = λ i. record {
+    wire = first.bus.wire;
+    masters = new_masters hs ms i;
+    side = new_ports ds ps i;
+    hold = new_holds ds ps i;
+  }
 
   first_kept : Kept hs ds first ticks_of_turn
   first_kept = record {
     let_go = λ e. new_holds ds ps;
     sound = record { kept = new_kept hs ms; contended = λ e. cc };
-    stands = subst (λ u. Stands (game ds) IsLegal (Idle ds) (record (seen_use hs ds first) { machine = u }) ticks_of_turn)
-        (sym first_seen) (idle (tasks hs first.book.entries) (idle_ports ds first.book.devices) first.watch (new_cells hs ms)
-        (new_tasks hs ms) (new_timed hs ms clocks) (new_holding hs ms)
+    stands =
+        subst (λ u. Stands (game ds) IsLegal (Idle ds) (record (seen_use hs ds first) { machine = u }) ticks_of_turn)
+        (sym first_seen)
+        (idle _ _ _ (new_cells hs ms) (new_tasks hs ms) (new_timed hs ms clocks) (new_holding hs ms)
         (record { devices = first.book.devices; ports_are = refl }) (new_ready hs ms));
     hosts = new_hosts hs ms;
     counts = let z = new_count hs ms in omega arith;

@@ -48,7 +48,8 @@ abbrev pub hosts_of : (hs : List HostBehaviour) → Bank HostedMaster hs → Mea
 hosts_of hs ms = bank_map meaning_served hs ms
 
 -- an arm
-arm_hosts : (hs : List HostBehaviour) (ms : Bank HostedMaster hs) (n : ℕ) → hosts_of hs (arm_master_at hs ms n).1 ≡ hosts_of hs ms
+arm_hosts : (hs : List HostBehaviour) (ms : Bank HostedMaster hs) (n : ℕ) →
+    hosts_of hs (arm_master_at hs ms n).1 ≡ hosts_of hs ms
 arm_hosts [] ms n = refl
 arm_hosts (h ∷ hs) ms zero = refl
 arm_hosts (h ∷ hs) ms (suc n) = ap (λ r. (ms.0.meaning, r)) (arm_hosts hs ms.1 n)
@@ -59,7 +60,8 @@ arm_masters_are [] ms n = refl
 arm_masters_are (h ∷ hs) ms zero = refl
 arm_masters_are (h ∷ hs) ms (suc n) = ap (λ l. ms.0.master ∷ l) (arm_masters_are hs ms.1 n)
 
-answer_one : (a : Arming TransferModel) (w : Option TransferModel) → (arming_after_arm a w).0 ≡ answer_if (task_of transfers a) w
+answer_one : (a : Arming TransferModel) (w : Option TransferModel) →
+    (arming_after_arm a w).0 ≡ answer_if (task_of transfers a) w
 answer_one a w = grind arith
 
 arm_answer_is : (hs : List HostBehaviour) (ms : Bank HostedMaster hs) (n : ℕ) →
@@ -75,7 +77,8 @@ count_one : {A : Type 0} (o w : Option A) (os : List (Option A)) →
     count (armed_if o w ∷ os) ≡ count (o ∷ os) + accepted_one (answer_if o w)
 count_one o w os = grind arith
 
-count_arm : {A : Type 0} (os ws : List (Option A)) (i : ℕ) → count (arm_book os ws i) ≡ count os + accepted_one (answer os ws i)
+count_arm : {A : Type 0} (os ws : List (Option A)) (i : ℕ) →
+    count (arm_book os ws i) ≡ count os + accepted_one (answer os ws i)
 count_arm [] ws i = omega arith
 count_arm (o ∷ os) [] i = omega arith
 count_arm (o ∷ os) (w ∷ ws) zero = count_one o w os
@@ -90,7 +93,8 @@ any_arm = at_place_has armed_if (λ a b. any a ≡ true → any b ≡ true) (λ 
 
 -- a tick
 step_hosts : (hs : List HostBehaviour) (ms : Bank HostedMaster hs) (s : Signal) →
-    hosts_of hs (bank_map (λ h. hosted_step h s) hs ms) ≡ hears_all hs (hosts_of hs ms) (bank_list (λ h. hosted_told h s) hs ms)
+    hosts_of hs (bank_map (λ h. hosted_step h s) hs ms) ≡
+    hears_all hs (hosts_of hs ms) (bank_list (λ h. hosted_told h s) hs ms)
 step_hosts [] ms s = refl
 step_hosts (h ∷ hs) ms s = grind (arith, step_hosts hs)
 
@@ -100,7 +104,8 @@ module _ (hs : List HostBehaviour) (ds : List Behaviour) where
 
   pub told_seen : (u : BusModel hs ds) → told_at hs ds u ≡ tick_tells transfers (ports_side ds) (seen hs ds u)
   told_seen u = told_as hs u.masters (signal u.wire (levels_at hs ds u))
-      ∙ ap (λ v. tellings transfers (verdicts transfers (masters_of hs u.masters) (signal u.wire v))) (levels_seen hs ds u)
+      ∙ ap (λ v. tellings transfers (verdicts transfers (masters_of hs u.masters) (signal u.wire v)))
+      (levels_seen hs ds u)
 
   -- a use as a point of the machine
   abbrev pub seen_use : Use hs ds → Point transfers (ports_side ds)
@@ -145,11 +150,12 @@ module _ (hs : List HostBehaviour) (ds : List Behaviour) where
 
     pub answers_as : (i : ℕ) → (arm_at hs ds x.bus i).0 ≡ (book_arm hs ds x.book i).0
     answers_as i = arm_answer_is hs x.bus.masters i
-        ∙ (ap₂ (λ os m. answer os (wants_of hs m) i) armed_as k.hosts ∙ sym (arm_answers hs x.book.entries i k.sound.kept))
+        ∙ (ap₂ (λ os m. answer os (wants_of hs m) i) armed_as k.hosts
+        ∙ sym (arm_answers hs x.book.entries i k.sound.kept))
 
-    arm_seen : (i : ℕ) →
-        seen hs ds (arm_at hs ds x.bus i).1 ≡ arm_bus transfers (ports_side ds) u (wants_of hs (hosts_of hs x.bus.masters)) i
-    arm_seen i = ap (λ ms. record { wire = u.wire; masters = ms; side = u.side; hold = u.hold }) (arm_masters_are hs x.bus.masters i)
+    arm_seen : (i : ℕ) → seen hs ds (arm_at hs ds x.bus i).1 ≡
+        arm_bus transfers (ports_side ds) u (wants_of hs (hosts_of hs x.bus.masters)) i
+    arm_seen i = ap (λ ms. record u { masters = ms }) (arm_masters_are hs x.bus.masters i)
 
     arm_booked : (i : ℕ) → booked hs ds (book_arm hs ds x.book i).1 ≡
         machine_book hs ds (arm_book b.armed (wants_of hs (hosts_of hs x.bus.masters)) i) b.side b.turn
@@ -201,8 +207,10 @@ module _ (hs : List HostBehaviour) (ds : List Behaviour) where
     notes_as =
         let w = monitor_after hs ds x.watch x.book (event_at hs ds x.bus) in
         let ms = x.bus.masters in
-        ap (λ (l : List Bool). record w { marked = l }) (marked_as hs ms (signal x.bus.wire (levels_at hs ds x.bus)) w.marked)
-        ∙ ap₂ (λ z v. noted transfers z (verdicts transfers (masters_of hs ms) (signal x.bus.wire v))) watches_as (levels_seen hs ds x.bus)
+        ap (λ (l : List Bool). record w { marked = l })
+        (marked_as hs ms (signal x.bus.wire (levels_at hs ds x.bus)) w.marked)
+        ∙ ap₂ (λ z v. noted transfers z (verdicts transfers (masters_of hs ms) (signal x.bus.wire v))) watches_as
+        (levels_seen hs ds x.bus)
 
     module _ (a : HoldAnswers ds) where
       abbrev h : ℕ
@@ -220,9 +228,13 @@ module _ (hs : List HostBehaviour) (ds : List Behaviour) where
       told_many : then.told ≡ x.told + count (book_tells (game ds) b e)
       told_many = ap (λ m. x.told + m) (how_many_is (told_at hs ds x.bus) ∙ ap count (told_seen x.bus ∙ f.tells))
 
-      tick_point_as : seen_use then ≡ point transfers (ports_side ds) (tick transfers (ports_side ds) u h) (feed (game ds) b e)
-          (noted transfers later (tick_verdicts transfers (ports_side ds) u))
-      tick_point_as = λ i. record { machine = tick_seen hs ds x.bus a k.let_go i; booked = fed_as i; monitor = notes_as i }
+      tick_point_as : seen_use then ≡ point transfers (ports_side ds) (tick transfers (ports_side ds) u h)
+          (feed (game ds) b e) (noted transfers later (tick_verdicts transfers (ports_side ds) u))
+      tick_point_as = λ i. record {
+        machine = tick_seen hs ds x.bus a k.let_go i;
+        booked = fed_as i;
+        monitor = notes_as i;
+      }
 
       ticked_keeps : Kept then f.due
       ticked_keeps = record {
@@ -231,7 +243,7 @@ module _ (hs : List HostBehaviour) (ds : List Behaviour) where
         stands = subst (λ z. StandsThere z f.due) (sym tick_point_as) f.stands;
         hosts = step_hosts hs x.bus.masters (signal x.bus.wire (levels_at hs ds x.bus))
             ∙ (ap₂ (hears_all hs) k.hosts tells_as ∙ sym (heard_after hs ds x.book (event_at hs ds x.bus)));
-        counts = let c = f.counts in let d = told_many in let g = k.counts in let m = ap (λ z. count z.armed) fed_as in omega arith;
+        counts = omega (arith, f.counts, told_many, k.counts, ap (λ z. count z.armed) fed_as);
       }
 
   -- m ticks after x the use y still waits for an outcome, and that many fewer are left
@@ -245,7 +257,8 @@ module _ (hs : List HostBehaviour) (ds : List Behaviour) where
   abbrev Nearer : Use hs ds → ℕ → ℕ → Use hs ds → Type 0
   Nearer x n m y = (x.told < y.told) ⊎ Waits x n m y
 
-  armed_nearer : (x : Use hs ds) (n m : ℕ) (y : Use hs ds) (i : ℕ) → Nearer x n m y → Nearer x n m (use_after_call hs ds y (arms i))
+  armed_nearer : (x : Use hs ds) (n m : ℕ) (y : Use hs ds) (i : ℕ) → Nearer x n m y →
+      Nearer x n m (use_after_call hs ds y (arms i))
   armed_nearer x n m y i (inl z) = inl z
   armed_nearer x n m y i (inr z) = inr (record {
     so_far = z.so_far;
@@ -280,7 +293,8 @@ module _ (hs : List HostBehaviour) (ds : List Behaviour) where
   pub tells_in : (x : Use hs ds) (n : ℕ) → Kept x n → any (tasks hs x.book.entries) ≡ true → (cs : List (Call hs ds)) →
       n < ticks_of hs ds x cs → x.told < (use_after hs ds x cs).told
   tells_in x n k some cs l =
-      let start : Waits x n 0 x = record { so_far = le_refl x.told; armed = some; due = n; kept = k; fewer = omega arith } in
+      let start : Waits x n 0 x =
+      record { so_far = le_refl x.told; armed = some; due = n; kept = k; fewer = omega arith } in
       elim (calls_keep hs ds (Nearer x n) (armed_nearer x n) (ticked_nearer x n) 0 x cs (inr start)) [
         | inl z ↦ z
         | inr z ↦ let c = z.fewer in absurd (omega arith)
