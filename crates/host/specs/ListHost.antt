@@ -1,7 +1,6 @@
 -- The list host: up to 8 transfers, one after the other, whatever comes of them.
-use Rattle.std.specs.Prelude.{ℕ, cond, List, length, Some, None, Ok, Err, Option, Result, nat_le}
+use Rattle.std.specs.Prelude.{ℕ, cond, List, length, Some, None, Ok, Err, Option, Result, nat_le, drop, slice_get}
 use Rattle.std.specs.Option.{option_map}
-use Rattle.transfer.specs.Fifo.{first_of, rest_of}
 use Rattle.transfer.specs.declared.draft.Transfer.{Transfer}
 use Rattle.transfer.specs.Limits.{most_items}
 use Rattle.transfer.specs.Outcome.{OutcomeModel, outcome_model}
@@ -16,8 +15,8 @@ pub record ListHostModel : Type 0 where
 abbrev pub list_host : HostBehaviour
 list_host = record {
   Meaning = ListHostModel;
-  want = λ m. first_of m.rest;
-  told = λ m o. record { rest = rest_of m.rest; last = Some o };
+  want = λ m. slice_get m.rest 0;
+  told = λ m o. record { rest = drop 1 m.rest; last = Some o };
 }
 
 -- a new list in the place of the old
