@@ -62,8 +62,8 @@ impl DecodedByte {
     ghost use Rattle.std.specs.Prelude.{◌≡◌, ◌+◌, ◌≤◌, ◌++◌, length};
     ghost use Rattle.wire.specs.Decoder.{byte_text};
 
-    /// Puts the byte in base sixteen, a space, and the letter of its acknowledge at the end of the
-    /// text.
+    /// Puts four characters at the end of the text: the byte in base sixteen, a space, and the letter
+    /// of its acknowledge.
     pub fn push_to<const N: usize>(self, text: &mut ArrayString<N>)
         requires { length text.old.bytes + 4 ≤ N }
         ensures { text.new.bytes ≡ text.old.bytes ++ byte_text self }
