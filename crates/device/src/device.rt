@@ -4,8 +4,8 @@ ghost use Rattle.device.specs.Device.{Behaviour, Step, select, put, take, finish
 
 use transfer::Direction;
 
-/// What a port carries. The port asks `finish` at a start or a stop, and the other steps at a fall of
-/// SCL at which a bit counts. By the answers it acknowledges, shows bits and holds the clock.
+/// What a port carries. The port asks `finish` at a start or a stop, and the other steps at a fall
+/// of SCL at which a bit counts. By the answers it acknowledges, shows bits and holds the clock.
 ///
 /// An implementation says by `behaviour` what the steps mean, and by `meaning` what a value of it
 /// means. A step may be asked at any time, also where a bus would not ask it.

@@ -16,8 +16,8 @@ pub trait Host {
     /// What a value of it means. It may leave out what no answer depends on.
     ghost meaning: { Self → behaviour.Meaning };
 
-    /// Whether it wants a transfer, and which. Beside a `false` the transfer says nothing. Asked when
-    /// its master is armed, which then sends this transfer until it has an outcome.
+    /// Whether it wants a transfer, and which. Beside a `false` the transfer says nothing. Asked
+    /// when its master is armed, which then sends this transfer until it has an outcome.
     // A flag and not an `Option`: an implementation that keeps its transfer answers without cases.
     fn want(&self) -> (bool, Transfer)
         ensures { wanted_transfer result ≡ behaviour.want (meaning self.now) };

@@ -40,8 +40,9 @@ impl Outcome {
     ghost use Rattle.std.specs.Prelude.{◌≡◌, ◌+◌, ◌≤◌, ◌++◌, length};
     ghost use Rattle.transfer.specs.Outcome.{outcome_model, outcome_text};
 
-    /// Puts what came of the transfer at the end of the text, in words: 100 bytes at most, which are
-    /// `done` and 32 bytes read. Legs and bytes count from 0, and the bytes read are in base sixteen.
+    /// Puts what came of the transfer at the end of the text, in words: 100 bytes at most, which
+    /// are `done` and 32 bytes read. Legs and bytes count from 0, and the bytes read are in base
+    /// sixteen.
     pub fn push_to<const N: usize>(&self, text: &mut ArrayString<N>)
         requires { length text.old.bytes + 100 ≤ N }
         ensures text { text.new.bytes ≡ text.old.bytes ++ outcome_text (outcome_model self.now) }

@@ -62,8 +62,8 @@ impl DecodedByte {
     ghost use Rattle.std.specs.Prelude.{◌≡◌, ◌+◌, ◌≤◌, ◌++◌, length};
     ghost use Rattle.wire.specs.Decoder.{byte_text};
 
-    /// Puts four characters at the end of the text: the byte in base sixteen, a space, and the letter
-    /// of its acknowledge.
+    /// Puts four characters at the end of the text: the byte in base sixteen, a space, and the
+    /// letter of its acknowledge.
     pub fn push_to<const N: usize>(self, text: &mut ArrayString<N>)
         requires { length text.old.bytes + 4 ≤ N }
         ensures { text.new.bytes ≡ text.old.bytes ++ byte_text self }
@@ -117,7 +117,8 @@ impl Decoder {
         }
     }
 
-    // What a bit that counts says, and the byte after it: the ninth acknowledges the eight before it.
+    // What a bit that counts says, and the byte after it: the ninth acknowledges the eight before
+    // it.
     fn take_bit(byte: ByteProgress, bit: bool) -> (Decoded, ByteProgress)
         ensures { result ≡ take_bit byte bit }
     {
