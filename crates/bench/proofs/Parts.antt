@@ -2,7 +2,7 @@
 use Rattle.std.proofs.Common.{◌≡◌, ℕ, suc, true, List, Some, Option, sym, ap, ◌∙◌, subst}
 use Rattle.device.specs.RegisterFile.{register_file}
 use Rattle.device.specs.declared.register_file.RegisterFile.{RegisterFile}
-use Rattle.device.specs.contracts.register_file.steps.RegisterFileDevice.TheImpl.{ghosts}
+use Rattle.device.specs.contracts.register_file.RegisterFileDevice.TheImpl.{ghosts}
 use Rattle.host.specs.Host.{HostBehaviour}
 use Rattle.host.specs.declared.poll_host.PollHost.{PollHost}
 use Rattle.host.specs.contracts.poll_host.PollHostHost.TheImpl.{ghosts as poll_ghosts}
