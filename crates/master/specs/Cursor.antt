@@ -98,7 +98,8 @@ after_leg None n = cursor_at at_end n
 after_leg (Some g) n = cursor_at (at_restart g) n
 
 abbrev pub after_byte : LegModel → Option LegModel → ℕ → Notes → CursorModel
-after_byte g o y n = if nat_lt y (leg_size g) then cursor_at (in_leg g o (suc y) 0) n else after_leg o n
+after_byte g o y n =
+    if nat_lt y (leg_size g) then cursor_at (in_leg g o (suc y) 0) n else after_leg o n
 
 -- after the acknowledge of a byte; one that was read is kept
 abbrev pub after_acknowledge : Bool → LegModel → Option LegModel → ℕ → Notes → CursorModel

@@ -65,7 +65,8 @@ module _ (h : HostBehaviour) where
   with_master x a = (a.0, record x { master = a.1 })
 
   abbrev pub hosted_arm : HostedMaster h → Result (Unit {0}) ℕ × HostedMaster h
-  hosted_arm x = with_master x (arm_master transfers x.master (option_map transfer_model (h.want x.meaning)))
+  hosted_arm x =
+      with_master x (arm_master transfers x.master (option_map transfer_model (h.want x.meaning)))
 
 -- a master as the rules see it, its host by what that means
 abbrev pub hosted_master : {H : Type 0} → (host : Ghosts H) → Master H → HostedMaster host.behaviour

@@ -48,7 +48,8 @@ module _ (W : Script) where
       record { low = low; high = high; arming = Unarmed; stage = idle; count = 0; pulls = no_pulls }
 
   abbrev pub with_stage : MasterModel → StageModel → ℕ → Bool → Bool → MasterModel
-  with_stage m s n scl sda = record m { stage = s; count = n; pulls = record { scl = scl; sda = sda } }
+  with_stage m s n scl sda =
+      record m { stage = s; count = n; pulls = record { scl = scl; sda = sda } }
 
   -- a loser lets go of both lines, stays armed and waits
   abbrev pub losing_step : MasterModel → MasterModel × VerdictModel
@@ -67,7 +68,8 @@ module _ (W : Script) where
 
   -- at a fall SCL is pulled and the symbol shown
   abbrev pub showing_step : MasterModel → W.Cursor → MasterModel × VerdictModel
-  showing_step m c = (with_stage m (sending (W.symbol c) c) m.low true (pulls_sda (W.symbol c)), quiet)
+  showing_step m c =
+      (with_stage m (sending (W.symbol c) c) m.low true (pulls_sda (W.symbol c)), quiet)
 
   abbrev pub counting_step : MasterModel → StageModel → MasterModel × VerdictModel
   counting_step m s = (with_stage m s m.high m.pulls.scl m.pulls.sda, quiet)
@@ -78,7 +80,8 @@ module _ (W : Script) where
   rise_step m symbol.Listen c b = counting_step m (sending symbol.Listen c)
   rise_step m symbol.One c b = if b then counting_step m (sending symbol.One c) else losing_step m
   rise_step m symbol.RepeatedStart c b =
-      if b then (with_stage m (sending symbol.RepeatedStart c) m.high m.pulls.scl true, quiet) else losing_step m
+      if b then (with_stage m (sending symbol.RepeatedStart c) m.high m.pulls.scl true, quiet)
+      else losing_step m
   rise_step m symbol.Stop c b = (with_stage m (stop_pending c) m.high m.pulls.scl false, quiet)
 
   abbrev pub restart_step : MasterModel → Symbol → W.Cursor → MasterModel × VerdictModel
@@ -96,7 +99,8 @@ module _ (W : Script) where
   high_step m s = (with_stage m s (m.count - 1) (m.count - 1 == 0) m.pulls.sda, quiet)
 
   -- a master in a stage, at an event, with the bit that counts at it and whether the bus is free with both lines high
-  abbrev pub stage_step : MasterModel → StageModel → Event → Option Bool → Bool → MasterModel × VerdictModel
+  abbrev pub stage_step : MasterModel → StageModel → Event → Option Bool → Bool →
+      MasterModel × VerdictModel
   stage_step m idle SteadyHigh o free = if free then contending_step m m.arming else quiet_step m
   stage_step m idle (Rise b) o free = quiet_step m
   stage_step m idle Fall o free = quiet_step m

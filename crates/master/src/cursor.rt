@@ -212,7 +212,9 @@ impl Cursor {
         requires in_leg { self.old.at ≡ InLeg }
         requires known { is_sent ≡ master_sends (leg_model self.old.leg) self.old.byte }
         ensures { cursor_model self.new ≡
-            after_acknowledge is_sent (leg_model self.old.leg) (option_map leg_model (leg_to_come self.old.rest)) self.old.byte (cursor_model self.old).notes }
+            after_acknowledge is_sent (leg_model self.old.leg)
+            (option_map leg_model (leg_to_come self.old.rest))
+            self.old.byte (cursor_model self.old).notes }
     {
         if !is_sent {
             self.read.push(self.under_way.value);

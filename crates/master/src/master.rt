@@ -77,7 +77,8 @@ impl<H: Host> Master<H> {
     /// As at its making, with the same clock and host; an unfinished turn is dropped, and the host is not told.
     pub fn reset(&mut self)
         ensures same { SameHost self.old self.new }
-        ensures after { hosted_master H.Host self.new ≡ hosted_new _ (hosted_master H.Host self.old) }
+        ensures after { hosted_master H.Host self.new ≡
+            hosted_new _ (hosted_master H.Host self.old) }
     {
         self.state = MasterState::new(self.state.clock);
     }

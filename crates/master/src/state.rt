@@ -165,7 +165,8 @@ impl MasterState {
 
     // Once its host is told a master is as a new one.
     fn tell(&mut self, outcome: Outcome) -> Verdict
-        ensures after { master_model self.new ≡ new_master transfers self.old.clock.low self.old.clock.high }
+        ensures after { master_model self.new ≡
+            new_master transfers self.old.clock.low self.old.clock.high }
         ensures verdict { verdict_model result ≡ told (outcome_model outcome) }
     {
         *self = MasterState::new(self.clock);
