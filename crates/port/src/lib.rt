@@ -5,4 +5,3 @@
 mod port;
 
 pub use port::{Mode, Port};
-pub use wire::ByteProgress;
