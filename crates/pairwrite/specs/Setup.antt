@@ -15,7 +15,8 @@ use Rattle.support.specs.Transfer.{registers_address, register_write}
 -- one transfer, a write of the byte to a register
 abbrev pub Wants : ℕ → ListHostModel → Type 0
 Wants byte m =
-    (t : Transfer) × (transfer_model t ≡ register_write registers_address byte) × (m ≡ new_list (t ∷ []))
+    (t : Transfer) × (transfer_model t ≡ register_write registers_address byte) ×
+    (m ≡ new_list (t ∷ []))
 
 abbrev pub pair_hosts : List HostBehaviour
 pair_hosts = list_host ∷ list_host ∷ []
