@@ -14,7 +14,7 @@ use Rattle.law.specs.Bus.{BusModel, new_bus}
 use Rattle.master.specs.Master.{HostedMaster, new_hosted_master}
 use Rattle.port.specs.Port.{new_port}
 use Rattle.support.specs.Filled.{new_list}
-use Rattle.support.specs.Transfer.{registers_address, events_address, register, write_to, read_from, write_then_read, register_write}
+use Rattle.support.specs.Transfer.{registers_address, events_address, register, write_to, write_then_read, event_read, register_write}
 
 -- no port has this address
 abbrev pub nobodys_address : ℕ
@@ -26,9 +26,6 @@ log_write = write_to registers_address (register ∷ 0x7F ∷ 0x80 ∷ [])
 
 abbrev pub log_read : TransferModel
 log_read = write_then_read registers_address (register ∷ []) 2
-
-abbrev pub event_read : TransferModel
-event_read = read_from events_address 1
 
 abbrev pub service_write : TransferModel
 service_write = register_write registers_address 0x7F
@@ -80,7 +77,8 @@ abbrev pub head_devices : List Behaviour
 head_devices = busy_over register_file ∷ slow_over event_queue ∷ event_queue ∷ []
 
 -- the two queues have one address
-abbrev pub head_of : ListHostModel → PollHostModel → ListHostModel → BusModel head_hosts head_devices
+abbrev pub head_of : ListHostModel → PollHostModel → ListHostModel →
+    BusModel head_hosts head_devices
 head_of a b c =
     let logger = new_hosted_master list_host 2 2 a in
     let alarm_unit = new_hosted_master poll_host 1 3 b in

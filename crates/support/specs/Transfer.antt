@@ -26,6 +26,10 @@ write_then_read address xs n = record {
   second = Some (record { address = address; body = reads n });
 }
 
+-- a read of one event
+abbrev pub event_read : TransferModel
+event_read = read_from events_address 1
+
 -- the register that the programs write to
 abbrev pub register : ℕ
 register = 3
