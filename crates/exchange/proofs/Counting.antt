@@ -31,14 +31,14 @@ told_marks (told o) ms os e =
     )
 
 -- a tick's marks tell all of its outcomes where each master has a place
-pub tolds_are_all : (hs : List HostBehaviour) (s : Signal) (p : Bank HostedMaster hs) (k : ℕ) → length hs ≤ k →
+pub told_count_is_all : (hs : List HostBehaviour) (s : Signal) (p : Bank HostedMaster hs) (k : ℕ) → length hs ≤ k →
     told_count (marks_over (bank_list (λ h. hosted_mark h s) hs p) (replicate k Quiet)) ≡ some_count (bank_list (λ h. hosted_told h s) hs p)
-tolds_are_all [] s p k h = sum_by-replicate (λ m. cond (is_told m) 1 0) k Quiet ∙ omega arith
-tolds_are_all (b ∷ hs) s p zero h = absurd (omega arith)
-tolds_are_all (b ∷ hs) s p (suc k) h =
+told_count_is_all [] s p k h = sum_by-replicate (λ m. cond (is_told m) 1 0) k Quiet ∙ omega arith
+told_count_is_all (b ∷ hs) s p zero h = absurd (omega arith)
+told_count_is_all (b ∷ hs) s p (suc k) h =
     told_marks (master_step transfers p.0.master s).1
     (marks_over (bank_list (λ h. hosted_mark h s) hs p.1) (replicate k Quiet))
-    (bank_list (λ h. hosted_told h s) hs p.1) (tolds_are_all hs s p.1 k (omega arith))
+    (bank_list (λ h. hosted_told h s) hs p.1) (told_count_is_all hs s p.1 k (omega arith))
 
 module _ (hs : List HostBehaviour) (ds : List Behaviour) {P : Type 0} (asked : P → Signal → HoldAnswers ds → P → Type 0) where
   -- from u with the ports p the run r is under way with the ports q, whatever is answered after the answers so far

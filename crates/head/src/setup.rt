@@ -27,6 +27,7 @@ pub type HeadPorts = (
     (Port<Slow<EventQueue>>, (Port<EventQueue>, End)),
 );
 
+/// The bus of the sensor head.
 pub type HeadBus = Bus<HeadMasters, HeadPorts>;
 
 const REGISTERS: u32 = 0x50;
