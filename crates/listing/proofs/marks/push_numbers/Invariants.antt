@@ -1,7 +1,7 @@
 use Rattle.std.proofs.Common.{◌≡◌, ◌+◌, ◌*◌, ◌≤◌, ◌++◌, ◌∷◌, length}
 use Rattle.text.specs.Digits.{digit_code}
 use Rattle.listing.proofs.Masters.{so_far}
-use Rattle.listing.proofs.marks.lines.push_numbers.Given as goal
+use Rattle.listing.proofs.marks.push_numbers.Given as goal
 
 abbrev pub invariant-loop-number : goal.invariant-loop-number
 invariant-loop-number g l =

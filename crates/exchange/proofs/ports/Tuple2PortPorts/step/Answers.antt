@@ -1,4 +1,4 @@
-use Rattle.exchange.proofs.bank.Tuple2PortPorts.step.Goals as goal
+use Rattle.exchange.proofs.ports.Tuple2PortPorts.step.Goals as goal
 
 pub returns : goal.returns
 returns g c =

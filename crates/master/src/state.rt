@@ -1,18 +1,49 @@
-// How a master is armed, and how it steps.
-ghost use Rattle.std.specs.Prelude.{◌≡◌, true};
-ghost use Rattle.master.specs.MasterState.{master_model, new_master, master_step, verdict_model, contending_step, losing_step, with_stage, quiet, told};
-ghost use Rattle.master.specs.Symbol.{pulls_sda};
-ghost use Rattle.transfer.specs.Outcome.{outcome_model};
-ghost use Rattle.master.specs.Script.{transfers};
-
-use super::{MasterState, Stage, Verdict};
+// A master without its host: where it stands in a turn, and how it steps.
 use crate::arming::Arming;
 use crate::cursor::Cursor;
 use crate::symbol::Symbol;
-use transfer::{ClockPair, Outcome};
+use transfer::{ClockPair, Outcome, Transfer};
 use wire::{Event, Pulls, Signal};
 
+// Where a master stands in a turn; a contender is somewhere in its transfer.
+#[derive(Clone, Copy)]
+pub enum Stage {
+    // no contender, or lost
+    Idle,
+    // from the pull that makes the start to the first fall
+    StartPending(Cursor),
+    Sending(Symbol, Cursor),
+    // SDA was let go for the stop in the last tick
+    StopPending(Cursor),
+}
+
+// What a tick makes of a master.
+#[derive(Clone, Copy)]
+pub enum Verdict {
+    Quiet,
+    Lost,
+    Told(Outcome),
+}
+
+// Its clock, what it is armed with, and where it stands in a turn. `count` is how many ticks its clock still is low or
+// high. Clauses see it by `master_model`: an `impl Model` would hide the range of the clock's counts, which the law
+// `clocks_in_range` of a bank of masters needs.
+#[derive(Drop)]
+pub struct MasterState {
+    pub(crate) clock: ClockPair,
+    pub(crate) arming: Arming<Transfer>,
+    stage: Stage,
+    count: u8,
+    pub(crate) pulls: Pulls,
+}
+
 impl MasterState {
+    ghost use Rattle.std.specs.Prelude.{◌≡◌, true};
+    ghost use Rattle.master.specs.MasterState.{master_model, new_master, master_step, verdict_model, contending_step, losing_step, with_stage, quiet, told};
+    ghost use Rattle.master.specs.Symbol.{pulls_sda};
+    ghost use Rattle.master.specs.Script.{transfers};
+    ghost use Rattle.transfer.specs.Outcome.{outcome_model};
+
     pub(crate) fn new(clock: ClockPair) -> MasterState
         ensures { master_model result ≡ new_master transfers clock.low clock.high }
     {
@@ -26,7 +57,8 @@ impl MasterState {
     }
 
     pub(crate) fn step(&mut self, signal: Signal) -> Verdict
-        ensures { (master_model self.new, verdict_model result) ≡ master_step transfers (master_model self.old) signal }
+        ensures { (master_model self.new, verdict_model result) ≡
+            master_step transfers (master_model self.old) signal }
     {
         // by event first: all masters meet the same one, so its branch is foreseen from the second on
         match (signal.event, &mut self.stage) {
@@ -53,7 +85,7 @@ impl MasterState {
                 self.pull_for(symbol)
             }
             (Event::Rise(sda), Stage::Sending(symbol, cursor)) => match (*symbol, sda) {
-                // 1 and the repeated start are lost under a low
+                // 1 and the repeated start are lost under a low (I2C specification 2.1, section 8.2)
                 (Symbol::One | Symbol::RepeatedStart, false) => self.lose(),
                 (Symbol::RepeatedStart, true) => {
                     self.pulls.sda = true;
@@ -78,9 +110,10 @@ impl MasterState {
         }
     }
 
-    // An armed master pulls SDA, for the start of its turn.
+    // An armed master pulls SDA, for the start of its turn (I2C specification 2.1, section 6.2).
     fn contend(&mut self) -> Verdict
-        ensures { (master_model self.new, verdict_model result) ≡ contending_step transfers (master_model self.old) (master_model self.old).arming }
+        ensures { (master_model self.new, verdict_model result) ≡
+            contending_step transfers (master_model self.old) (master_model self.old).arming }
     {
         if let Arming::Armed(transfer) = self.arming {
             self.stage = Stage::StartPending(Cursor::new(transfer));
@@ -93,9 +126,11 @@ impl MasterState {
         Verdict::Quiet
     }
 
-    // At a rise or a start the high count begins.
+    // At a rise or a start the high count begins (I2C specification 2.1, section 8.1).
     fn count_high(&mut self) -> Verdict
-        ensures after { master_model self.new ≡ with_stage transfers (master_model self.old) (master_model self.old).stage self.old.clock.high self.old.pulls.scl self.old.pulls.sda }
+        ensures after { master_model self.new ≡
+            with_stage transfers (master_model self.old) (master_model self.old).stage
+            self.old.clock.high self.old.pulls.scl self.old.pulls.sda }
         ensures verdict { verdict_model result ≡ quiet }
     {
         self.count = self.clock.high();
@@ -104,7 +139,9 @@ impl MasterState {
 
     // At a fall the clock is pulled, and SDA as the symbol shown asks.
     fn pull_for(&mut self, symbol: Symbol) -> Verdict
-        ensures after { master_model self.new ≡ with_stage transfers (master_model self.old) (master_model self.old).stage self.old.clock.low true (pulls_sda symbol) }
+        ensures after { master_model self.new ≡
+            with_stage transfers (master_model self.old) (master_model self.old).stage
+            self.old.clock.low true (pulls_sda symbol) }
         ensures verdict { verdict_model result ≡ quiet }
     {
         self.count = self.clock.low();
@@ -117,7 +154,8 @@ impl MasterState {
 
     // A loser lets go of both lines, stays armed and waits.
     fn lose(&mut self) -> Verdict
-        ensures { (master_model self.new, verdict_model result) ≡ losing_step transfers (master_model self.old) }
+        ensures { (master_model self.new, verdict_model result) ≡
+            losing_step transfers (master_model self.old) }
     {
         self.stage = Stage::Idle;
         self.count = 0;
@@ -127,7 +165,8 @@ impl MasterState {
 
     // Once its host is told a master is as a new one.
     fn tell(&mut self, outcome: Outcome) -> Verdict
-        ensures after { master_model self.new ≡ new_master transfers self.old.clock.low self.old.clock.high }
+        ensures after { master_model self.new ≡
+            new_master transfers self.old.clock.low self.old.clock.high }
         ensures verdict { verdict_model result ≡ told (outcome_model outcome) }
     {
         *self = MasterState::new(self.clock);
