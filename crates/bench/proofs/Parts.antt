@@ -44,9 +44,10 @@ four_more n a model b rest at after = four_files a n _ _ _ _ _ at.0 at.1 at.2 at
 
 module _ (hs : List HostBehaviour) (b : Bank HostedMaster hs) (masters ports ticks : ℕ) (r : Option ℕ) where
   -- a bus with n ports
-  pub is_measured_with : (n : ℕ) (u : BusModel hs (devices n)) (p : Bank PortModel (devices n)) (count : ℕ) → is_ports n ≡ true → ports ≡ n →
-      u ≡ new_bus hs (devices n) b p → p ≡ files 80 n → (v : BusModel hs (devices n)) × Works hs
-      (devices n) masters ticks u count v → r ≡ Some count → MeasuredWith hs b masters ports ticks r
+  pub is_measured_with : (n : ℕ) (u : BusModel hs (devices n)) (p : Bank PortModel (devices n)) (count : ℕ) →
+      is_ports n ≡ true → ports ≡ n → u ≡ new_bus hs (devices n) b p → p ≡ files 80 n →
+      (v : BusModel hs (devices n)) × Works hs (devices n) masters ticks u count v → r ≡ Some count →
+      MeasuredWith hs b masters ports ticks r
   is_measured_with n u p count size e bus ports_are works is = (
     (λ no. let z = sym (ap is_ports e ∙ size) ∙ no in cc),
     (λ yes. subst (λ k. (v : BusModel hs (devices k)) × (count : ℕ) × Works hs (devices k) masters ticks
