@@ -2,7 +2,7 @@
 use Rattle.std.specs.Prelude.{◌≡◌, ℕ, zero, suc, Bool, true, false, if◌then◌else◌, List, [], ◌∷◌, ◌++◌, codes, decimal, map, Option, Some, None}
 use Rattle.std.specs.List.{flat_map}
 use Rattle.transfer.specs.declared.draft.Transfer.{Transfer}
-use Rattle.transfer.specs.Transfer.{TransferModel, transfer_model}
+use Rattle.transfer.specs.Transfer.{TransferModel, transfer_model, write_to, read_from, write_then_read}
 use Rattle.transfer.specs.Outcome.{OutcomeModel, outcome_text}
 use Rattle.device.specs.Device.{Behaviour}
 use Rattle.device.specs.RegisterFile.{register_file}
@@ -16,7 +16,7 @@ use Rattle.listing.specs.Marks.{told_text}
 use Rattle.support.specs.ArmAll.{all_armed}
 use Rattle.support.specs.Filled.{new_list}
 use Rattle.support.specs.PairBus.{new_pair_bus}
-use Rattle.support.specs.Transfer.{registers_address, register, write_to, read_from, write_then_read}
+use Rattle.support.specs.Transfer.{registers_address, register}
 use Rattle.support.specs.declared.pair.Clocks.{Clocks}
 use Rattle.wire.specs.declared.event.Event.{Event}
 use Rattle.wire.specs.declared.event.Event.TheVariants.{Rise, Fall, Start, Stop, SteadyHigh, SteadyLow}

@@ -1,7 +1,7 @@
 -- What the parts of the head are made of, before a master is armed.
 use Rattle.std.specs.Prelude.{◌≡◌, ℕ, false, List, [], ◌∷◌, None}
 use Rattle.transfer.specs.declared.draft.Transfer.{Transfer}
-use Rattle.transfer.specs.Transfer.{TransferModel, transfer_model}
+use Rattle.transfer.specs.Transfer.{TransferModel, transfer_model, write_to, write_then_read}
 use Rattle.device.specs.Device.{Behaviour}
 use Rattle.device.specs.Busy.{BusyModel, new_busy, busy_over}
 use Rattle.device.specs.EventQueue.{event_queue}
@@ -14,7 +14,7 @@ use Rattle.law.specs.Bus.{BusModel, new_bus}
 use Rattle.master.specs.Master.{HostedMaster, new_hosted_master}
 use Rattle.port.specs.Port.{new_port}
 use Rattle.support.specs.Filled.{new_list}
-use Rattle.support.specs.Transfer.{registers_address, events_address, register, write_to, write_then_read, event_read, register_write}
+use Rattle.support.specs.Transfer.{registers_address, events_address, register, event_read, register_write}
 
 -- no port has this address
 abbrev pub nobodys_address : ℕ

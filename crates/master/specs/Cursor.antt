@@ -1,12 +1,12 @@
 -- Where a contender is in its transfer, what it shows there and what follows.
-use Rattle.std.specs.Prelude.{ℕ, suc, ◌+◌, ◌-◌, ◌*◌, Bool, true, false, if◌then◌else◌, not, ◌&&◌, List, [], ◌∷◌, ◌++◌, Some, None, Option, nat_lt, slice_index}
+use Rattle.std.specs.Prelude.{ℕ, suc, ◌+◌, ◌-◌, Bool, true, false, if◌then◌else◌, not, ◌&&◌, List, [], ◌∷◌, ◌++◌, Some, None, Option, nat_lt, slice_index}
 use Rattle.std.specs.Option.{option_map}
 use Rattle.transfer.specs.declared.outcome.OutcomeKind.{OutcomeKind}
 use Rattle.transfer.specs.declared.outcome.OutcomeKind.TheVariants.{Done, NoAnswer, Refused}
 use Rattle.transfer.specs.Transfer.{TransferModel}
-use Rattle.transfer.specs.Leg.{BodyModel, writes, reads, LegModel, leg_model, body_size}
+use Rattle.transfer.specs.Leg.{BodyModel, writes, reads, LegModel, leg_model, address_byte, body_size}
 use Rattle.transfer.specs.Bytes.{bytes_in}
-use Rattle.transfer.specs.Outcome.{OutcomeModel}
+use Rattle.transfer.specs.Outcome.{OutcomeModel, outcome_of_kind}
 use Rattle.master.specs.declared.cursor.At.{At}
 use Rattle.master.specs.declared.cursor.At.TheVariants.{InLeg, Restart, End}
 use Rattle.master.specs.declared.cursor.Cursor.{Cursor}
@@ -42,17 +42,13 @@ abbrev pub new_cursor : TransferModel → CursorModel
 new_cursor t =
     cursor_at (in_leg t.first t.second 0 0) (record { leg = 0; bytes = []; value = 0; kind = Done })
 
-abbrev pub address_byte : LegModel → BodyModel → ℕ
-address_byte g (writes xs) = g.address * 2
-address_byte g (reads n) = g.address * 2 + 1
-
 -- what the leg's byte y is, where the master sends it
 abbrev pub body_byte : BodyModel → ℕ → ℕ
 body_byte (writes xs) y = slice_index xs y
 body_byte (reads n) y = 0
 
 abbrev pub byte_of_leg : LegModel → ℕ → ℕ
-byte_of_leg g ℕ.zero = address_byte g g.body
+byte_of_leg g ℕ.zero = address_byte g.address g.body
 byte_of_leg g (suc y) = body_byte g.body y
 
 abbrev pub is_write : BodyModel → Bool
@@ -123,14 +119,8 @@ play_next (in_leg g o y b) n heard =
 abbrev pub cursor_next : CursorModel → Bool → CursorModel
 cursor_next c heard = play_next c.play c.notes heard
 
--- only a transfer that is done has bytes read
-abbrev pub reported_bytes : OutcomeKind → List ℕ → List ℕ
-reported_bytes Done xs = xs
-reported_bytes (NoAnswer p) xs = []
-reported_bytes (Refused p) xs = []
-
 abbrev pub outcome_of : CursorModel → OutcomeModel
-outcome_of c = record { kind = c.notes.kind; bytes = reported_bytes c.notes.kind c.notes.bytes }
+outcome_of c = outcome_of_kind c.notes.kind c.notes.bytes
 
 abbrev pub play_model : At → Cursor → Play
 play_model InLeg c =

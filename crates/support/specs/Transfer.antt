@@ -1,7 +1,6 @@
--- What the programs send: transfers of one leg or two, and where to.
-use Rattle.std.specs.Prelude.{ℕ, List, [], ◌∷◌, Some, None}
-use Rattle.transfer.specs.Transfer.{TransferModel}
-use Rattle.transfer.specs.Leg.{writes, reads}
+-- What the programs send, and where to.
+use Rattle.std.specs.Prelude.{ℕ, [], ◌∷◌}
+use Rattle.transfer.specs.Transfer.{TransferModel, write_to, read_from}
 
 -- where the programs have their register file
 abbrev pub registers_address : ℕ
@@ -10,21 +9,6 @@ registers_address = 0x50
 -- where they have their event queues
 abbrev pub events_address : ℕ
 events_address = 0x51
-
-abbrev pub write_to : ℕ → List ℕ → TransferModel
-write_to address xs =
-    record { first = record { address = address; body = writes xs }; second = None }
-
-abbrev pub read_from : ℕ → ℕ → TransferModel
-read_from address n =
-    record { first = record { address = address; body = reads n }; second = None }
-
--- a write, and then a read of n bytes from the same address
-abbrev pub write_then_read : ℕ → List ℕ → ℕ → TransferModel
-write_then_read address xs n = record {
-  first = record { address = address; body = writes xs };
-  second = Some (record { address = address; body = reads n });
-}
 
 -- a read of one event
 abbrev pub event_read : TransferModel

@@ -1,5 +1,5 @@
 -- An outcome by its kind and the bytes read, and its text.
-use Rattle.std.specs.Prelude.{ℕ, List, ◌++◌, codes, decimal}
+use Rattle.std.specs.Prelude.{ℕ, List, [], ◌++◌, codes, decimal}
 use Rattle.text.specs.Digits.{bytes_text}
 use Rattle.transfer.specs.declared.outcome.Outcome.{Outcome}
 use Rattle.transfer.specs.declared.outcome.OutcomeKind.{OutcomeKind}
@@ -12,6 +12,15 @@ pub record OutcomeModel : Type 0 where
 
 abbrev pub outcome_model : Outcome → OutcomeModel
 outcome_model o = record { kind = o.kind; bytes = bytes_in o.read }
+
+-- only a done outcome has the bytes read
+abbrev pub reported_bytes : OutcomeKind → List ℕ → List ℕ
+reported_bytes Done xs = xs
+reported_bytes (NoAnswer p) xs = []
+reported_bytes (Refused p) xs = []
+
+abbrev pub outcome_of_kind : OutcomeKind → List ℕ → OutcomeModel
+outcome_of_kind k xs = record { kind = k; bytes = reported_bytes k xs }
 
 abbrev pub kind_text : OutcomeKind → List ℕ → List ℕ
 kind_text Done xs = codes "done" ++ bytes_text xs

@@ -3,7 +3,7 @@ use Rattle.std.specs.Prelude.{ℕ, Bool, if◌then◌else◌, ◌&&◌, List, le
 use Rattle.std.specs.Option.{option_map}
 use Rattle.transfer.specs.declared.draft.Transfer.{Transfer}
 use Rattle.transfer.specs.declared.refusal.Refusal.TheVariants.{TwoLegsAlready, LengthOutOfRange}
-use Rattle.transfer.specs.Leg.{BodyModel, writes, reads, LegModel, leg_model, empty_write}
+use Rattle.transfer.specs.Leg.{BodyModel, writes, reads, LegModel, leg_model, write_leg, read_leg, empty_write}
 use Rattle.transfer.specs.Limits.{most_bytes}
 use Rattle.transfer.specs.Refusal.{number}
 
@@ -21,26 +21,33 @@ is_write_length n = nat_le n most_bytes
 abbrev pub is_read_length : ℕ → Bool
 is_read_length n = nat_le 1 n && nat_le n most_bytes
 
--- the transfers that are put together in one call: of one leg, or of two legs at one address
+-- transfers of one leg, and of a write and a read at one address
+abbrev pub write_to : ℕ → List ℕ → TransferModel
+write_to a xs = record { first = write_leg a xs; second = None }
+
+abbrev pub read_from : ℕ → ℕ → TransferModel
+read_from a n = record { first = read_leg a n; second = None }
+
+abbrev pub write_then_read : ℕ → List ℕ → ℕ → TransferModel
+write_then_read a xs n = record { first = write_leg a xs; second = Some (read_leg a n) }
+
+-- the same, put together in one call, with which lengths are refused
 abbrev pub one_write : ℕ → List ℕ → Result TransferModel ℕ
 one_write a xs =
     if is_write_length (length xs)
-    then Ok (record { first = record { address = a; body = writes xs }; second = None })
+    then Ok (write_to a xs)
     else Err (number LengthOutOfRange)
 
 abbrev pub one_read : ℕ → ℕ → Result TransferModel ℕ
 one_read a n =
     if is_read_length n
-    then Ok (record { first = record { address = a; body = reads n }; second = None })
+    then Ok (read_from a n)
     else Err (number LengthOutOfRange)
 
 abbrev pub write_and_read : ℕ → List ℕ → ℕ → Result TransferModel ℕ
 write_and_read a xs n =
     if is_write_length (length xs) && is_read_length n
-    then Ok (record {
-      first = record { address = a; body = writes xs };
-      second = Some (record { address = a; body = reads n });
-    })
+    then Ok (write_then_read a xs n)
     else Err (number LengthOutOfRange)
 
 -- how every draft begins
