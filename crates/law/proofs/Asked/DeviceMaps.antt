@@ -1,5 +1,6 @@
--- Maps of meanings that commute with the steps of a device, and what goes the same way over them: ports, a script played alone, a transfer carried alone.
-use Rattle.std.proofs.Common.{◌≡◌, ℕ, zero, suc, Bool, true, false, cond, not, ◌||◌, List, [], ◌∷◌, Option, sym, refl, ap, ◌∙◌, le_refl, arith}
+-- Maps of meanings that commute with the steps of a device carry along ports, a script played alone and a transfer carried alone.
+use Rattle.std.proofs.Common.{◌≡◌, ℕ, zero, suc, Bool, true, false, cond, not, ◌||◌, List, [], ◌∷◌, Option, sym, refl}
+use Rattle.std.proofs.Common.{ap, ◌∙◌, le_refl, arith}
 use Rattle.transfer.specs.declared.leg.Direction.{Direction}
 use Rattle.transfer.specs.Transfer.{TransferModel}
 use Rattle.device.specs.Device.{Behaviour}
@@ -17,13 +18,14 @@ use Rattle.law.specs.Bank.{Bank, bank_map, bank_list}
 use Rattle.law.specs.Bus.{all_pulls}
 use Rattle.law.specs.TransferResult.{AddressedDevice, transfer_result}
 use Rattle.law.specs.Legal.{IsLegal}
+use Rattle.law.specs.Use.{addressed_device}
 use Rattle.law.specs.Letter.{zero as low, one}
 use Rattle.law.proofs.FarSide.{Side, ends, letter, heard, after, string, last, final}
 use Rattle.law.proofs.Alone.StepsOfBanks.{any}
 use Rattle.law.proofs.Alone.PlayedIsCarried.{carried_alone}
-use Rattle.law.proofs.Alone.PortsAsSide.{counting, pulling, ports_side, idle_ports, placed}
+use Rattle.law.proofs.Alone.PortsAsSide.{counting, pulling, unheld, ports_side, idle_ports}
 use Rattle.law.proofs.Alone.SlotsRunOut.{slots_left}
-use Rattle.law.proofs.Alone.Statements.{opened_ports}
+use Rattle.law.proofs.Alone.Statements.{opened_ports, Agrees}
 
 -- a map of the meanings of one behaviour to those of another that commutes with all four steps
 pub record Morphism (b c : Behaviour) : Type 0 where
@@ -34,11 +36,9 @@ pub record Morphism (b c : Behaviour) : Type 0 where
   pub finishes : (m : b.Meaning) → c.finish (to m) ≡ to (b.finish m)
 
 -- one for each device
-abbrev pub Morphisms : List Behaviour → List Behaviour → Type 0
-Morphisms [] [] = Unit {0}
-Morphisms [] (c ∷ cs) = ⊥
-Morphisms (b ∷ bs) [] = ⊥
-Morphisms (b ∷ bs) (c ∷ cs) = Morphism b c × Morphisms bs cs
+pub data Morphisms : List Behaviour → List Behaviour → Type 1 where
+  empty : Morphisms [] []
+  also : (b c : Behaviour) (bs cs : List Behaviour) → Morphism b c → Morphisms bs cs → Morphisms (b ∷ bs) (c ∷ cs)
 
 module _ (b c : Behaviour) (h : Morphism b c) where
   abbrev pub placed_to : AddressedDevice b → AddressedDevice c
@@ -60,54 +60,65 @@ module _ (b c : Behaviour) (h : Morphism b c) where
   pub sees_to : (p : PortModel b) (e : Event) (o : Option Bool) (n : ℕ) → port_after_event c (port_to p) e o n ≡ port_to (port_after_event b p e o n)
   sees_to p e o n = grind (arith, counts_to p p.mode, settles_to p)
 
-abbrev pub devices_to : (bs cs : List Behaviour) → Morphisms bs cs → Bank AddressedDevice bs → Bank AddressedDevice cs
-devices_to [] [] h d = tt
-devices_to [] (c ∷ cs) h d = elim h [ ]
-devices_to (b ∷ bs) [] h d = elim h [ ]
-devices_to (b ∷ bs) (c ∷ cs) h d = (placed_to b c h.0 d.0, devices_to bs cs h.1 d.1)
+abbrev pub devices_to : {bs cs : List Behaviour} → Morphisms bs cs → Bank AddressedDevice bs → Bank AddressedDevice cs
+devices_to empty d = tt
+devices_to (also b c bs cs f h) d = (placed_to b c f d.0, devices_to h d.1)
 
-abbrev pub ports_to : (bs cs : List Behaviour) → Morphisms bs cs → Bank PortModel bs → Bank PortModel cs
-ports_to [] [] h s = tt
-ports_to [] (c ∷ cs) h s = elim h [ ]
-ports_to (b ∷ bs) [] h s = elim h [ ]
-ports_to (b ∷ bs) (c ∷ cs) h s = (port_to b c h.0 s.0, ports_to bs cs h.1 s.1)
+abbrev pub ports_to : {bs cs : List Behaviour} → Morphisms bs cs → Bank PortModel bs → Bank PortModel cs
+ports_to empty s = tt
+ports_to (also b c bs cs f h) s = (port_to b c f s.0, ports_to h s.1)
 
-pub pulls_to : (bs cs : List Behaviour) (h : Morphisms bs cs) (s : Bank PortModel bs) → all_pulls (bank_list port_pulls cs (ports_to bs cs h s)) ≡ all_pulls (bank_list port_pulls bs s)
-pulls_to [] [] h s = refl
-pulls_to [] (c ∷ cs) h s = elim h [ ]
-pulls_to (b ∷ bs) [] h s = elim h [ ]
-pulls_to (b ∷ bs) (c ∷ cs) h s = ap (pulls_or (port_pulls b s.0)) (pulls_to bs cs h.1 s.1)
+pub pulls_to : {bs cs : List Behaviour} (h : Morphisms bs cs) (s : Bank PortModel bs) →
+    all_pulls (bank_list port_pulls cs (ports_to h s)) ≡ all_pulls (bank_list port_pulls bs s)
+pulls_to empty s = refl
+pulls_to (also b c bs cs f h) s = ap (pulls_or (port_pulls b s.0)) (pulls_to h s.1)
 
-abbrev pub port_places : (ds : List Behaviour) → Bank PortModel ds → List ℕ
-port_places ds s = bank_list (λ b p. p.address) ds s
+-- the devices at the ports
+abbrev pub devices_at : (ds : List Behaviour) → Bank PortModel ds → Bank AddressedDevice ds
+devices_at ds s = bank_map addressed_device ds s
 
-abbrev pub device_places : (ds : List Behaviour) → Bank AddressedDevice ds → List ℕ
-device_places ds d = bank_list (λ b p. p.address) ds d
+pub devices_at_to : {bs cs : List Behaviour} (h : Morphisms bs cs) (s : Bank PortModel bs) →
+    devices_at cs (ports_to h s) ≡ devices_to h (devices_at bs s)
+devices_at_to empty s = refl
+devices_at_to (also b c bs cs f h) s = ap (λ r. (placed_to b c f (addressed_device b s.0), r)) (devices_at_to h s.1)
 
-pub places_to : (bs cs : List Behaviour) (h : Morphisms bs cs) (s : Bank PortModel bs) → port_places cs (ports_to bs cs h s) ≡ port_places bs s
-places_to [] [] h s = refl
-places_to [] (c ∷ cs) h s = elim h [ ]
-places_to (b ∷ bs) [] h s = elim h [ ]
-places_to (b ∷ bs) (c ∷ cs) h s = ap (λ l. s.0.address ∷ l) (places_to bs cs h.1 s.1)
+pub devices_at_unheld : (ds : List Behaviour) (s : Bank PortModel ds) →
+    devices_at ds (bank_map unheld ds s) ≡ devices_at ds s
+devices_at_unheld [] s = refl
+devices_at_unheld (b ∷ ds) s = ap (λ r. (addressed_device b s.0, r)) (devices_at_unheld ds s.1)
+
+abbrev pub device_addresses : (ds : List Behaviour) → Bank AddressedDevice ds → List ℕ
+device_addresses ds d = bank_list (λ b p. p.address) ds d
+
+abbrev pub port_addresses : (ds : List Behaviour) → Bank PortModel ds → List ℕ
+port_addresses ds s = bank_list (λ b p. p.address) ds s
+
+pub same_addresses : (ds : List Behaviour) (s : Bank PortModel ds) →
+    port_addresses ds s ≡ device_addresses ds (devices_at ds s)
+same_addresses [] s = refl
+same_addresses (b ∷ ds) s = ap (λ l. s.0.address ∷ l) (same_addresses ds s.1)
+
+pub addresses_to : {bs cs : List Behaviour} (h : Morphisms bs cs) (s : Bank PortModel bs) →
+    port_addresses cs (ports_to h s) ≡ port_addresses bs s
+addresses_to empty s = refl
+addresses_to (also b c bs cs f h) s = ap (λ l. s.0.address ∷ l) (addresses_to h s.1)
 
 -- the side
-pub side_bit : (bs cs : List Behaviour) (h : Morphisms bs cs) (s : Bank PortModel bs) (x : Bool) → bank_map (counting x) cs (ports_to bs cs h s) ≡ ports_to bs cs h (bank_map (counting x) bs s)
-side_bit [] [] h s x = refl
-side_bit [] (c ∷ cs) h s x = elim h [ ]
-side_bit (b ∷ bs) [] h s x = elim h [ ]
-side_bit (b ∷ bs) (c ∷ cs) h s x = λ i. (counts_to b c h.0 s.0 s.0.mode x 0 i, side_bit bs cs h.1 s.1 x i)
+pub side_bit : {bs cs : List Behaviour} (h : Morphisms bs cs) (s : Bank PortModel bs) (x : Bool) →
+    bank_map (counting x) cs (ports_to h s) ≡ ports_to h (bank_map (counting x) bs s)
+side_bit empty s x = refl
+side_bit (also b c bs cs f h) s x = λ i. (counts_to b c f s.0 s.0.mode x 0 i, side_bit h s.1 x i)
 
-pub side_settles : (bs cs : List Behaviour) (h : Morphisms bs cs) (s : Bank PortModel bs) (m : Mode) → bank_map (λ b p. port_after_finish b p m) cs (ports_to bs cs h s) ≡ ports_to bs cs h (bank_map (λ b p. port_after_finish b p m) bs s)
-side_settles [] [] h s m = refl
-side_settles [] (c ∷ cs) h s m = elim h [ ]
-side_settles (b ∷ bs) [] h s m = elim h [ ]
-side_settles (b ∷ bs) (c ∷ cs) h s m = λ i. (settles_to b c h.0 s.0 m i, side_settles bs cs h.1 s.1 m i)
+pub side_settles : {bs cs : List Behaviour} (h : Morphisms bs cs) (s : Bank PortModel bs) (m : Mode) →
+    bank_map (λ b p. port_after_finish b p m) cs (ports_to h s) ≡
+    ports_to h (bank_map (λ b p. port_after_finish b p m) bs s)
+side_settles empty s m = refl
+side_settles (also b c bs cs f h) s m = λ i. (settles_to b c f s.0 m i, side_settles h s.1 m i)
 
-pub side_pulling : (bs cs : List Behaviour) (h : Morphisms bs cs) (s : Bank PortModel bs) → any pulling cs (ports_to bs cs h s) ≡ any pulling bs s
-side_pulling [] [] h s = refl
-side_pulling [] (c ∷ cs) h s = elim h [ ]
-side_pulling (b ∷ bs) [] h s = elim h [ ]
-side_pulling (b ∷ bs) (c ∷ cs) h s = ap (λ v. pulling b s.0 || v) (side_pulling bs cs h.1 s.1)
+pub side_pulling : {bs cs : List Behaviour} (h : Morphisms bs cs) (s : Bank PortModel bs) →
+    any pulling cs (ports_to h s) ≡ any pulling bs s
+side_pulling empty s = refl
+side_pulling (also b c bs cs f h) s = ap (λ v. pulling b s.0 || v) (side_pulling h s.1)
 
 -- one side that goes as another
 pub record SideMorphism (D E : Side) : Type 0 where
@@ -119,11 +130,11 @@ pub record SideMorphism (D E : Side) : Type 0 where
 
 abbrev pub side_to : (bs cs : List Behaviour) → Morphisms bs cs → SideMorphism (ports_side bs) (ports_side cs)
 side_to bs cs h = record {
-  to = ports_to bs cs h;
-  pulls = side_pulling bs cs h;
-  bit = side_bit bs cs h;
-  begin = λ s. side_settles bs cs h s (Addressing (progress 0 0));
-  finish = λ s. side_settles bs cs h s Out;
+  to = ports_to h;
+  pulls = side_pulling h;
+  bit = side_bit h;
+  begin = λ s. side_settles h s (Addressing (progress 0 0));
+  finish = λ s. side_settles h s Out;
 }
 
 module _ (W : Script) (D E : Side) (h : SideMorphism D E) where
@@ -172,42 +183,62 @@ module _ (W : Script) (D E : Side) (h : SideMorphism D E) where
       ∙ ap (λ f. cond (ends x) c f) (final_to n q (after D x s))
 
 -- idle ports by their devices
-pub devices_of_idle : (ds : List Behaviour) (d : Bank AddressedDevice ds) → bank_map placed ds (idle_ports ds d) ≡ d
+pub devices_of_idle : (ds : List Behaviour) (d : Bank AddressedDevice ds) → devices_at ds (idle_ports ds d) ≡ d
 devices_of_idle [] d = refl
 devices_of_idle (b ∷ ds) d = ap (λ r. (d.0, r)) (devices_of_idle ds d.1)
 
 pub idle_same : (ds : List Behaviour) (d e : Bank AddressedDevice ds) → idle_ports ds d ≡ idle_ports ds e → d ≡ e
-idle_same ds d e q = sym (devices_of_idle ds d) ∙ (ap (bank_map placed ds) q ∙ devices_of_idle ds e)
+idle_same ds d e q = sym (devices_of_idle ds d) ∙ (ap (devices_at ds) q ∙ devices_of_idle ds e)
 
-pub idle_to : (bs cs : List Behaviour) (h : Morphisms bs cs) (d : Bank AddressedDevice bs) → idle_ports cs (devices_to bs cs h d) ≡ ports_to bs cs h (idle_ports bs d)
-idle_to [] [] h d = refl
-idle_to [] (c ∷ cs) h d = elim h [ ]
-idle_to (b ∷ bs) [] h d = elim h [ ]
-idle_to (b ∷ bs) (c ∷ cs) h d = λ i. (port_to b c h.0 (idle_ports (b ∷ bs) d).0, idle_to bs cs h.1 d.1 i)
+pub idle_to : {bs cs : List Behaviour} (h : Morphisms bs cs) (d : Bank AddressedDevice bs) →
+    idle_ports cs (devices_to h d) ≡ ports_to h (idle_ports bs d)
+idle_to empty d = refl
+idle_to (also b c bs cs f h) d = λ i. (port_to b c f (idle_ports (b ∷ bs) d).0, idle_to h d.1 i)
 
 module _ (bs cs : List Behaviour) (h : Morphisms bs cs) where
-  pub opened_to : (d : Bank AddressedDevice bs) → opened_ports cs (devices_to bs cs h d) ≡ ports_to bs cs h (opened_ports bs d)
-  opened_to d = ap (ports_side cs).begin (idle_to bs cs h d) ∙ (side_to bs cs h).begin (idle_ports bs d)
+  abbrev P : Side
+  P = ports_side bs
+
+  abbrev Q : Side
+  Q = ports_side cs
+
+  abbrev goes : SideMorphism P Q
+  goes = side_to bs cs h
+
+  pub opened_to : (d : Bank AddressedDevice bs) → opened_ports cs (devices_to h d) ≡ ports_to h (opened_ports bs d)
+  opened_to d = ap Q.begin (idle_to h d) ∙ goes.begin (idle_ports bs d)
 
   -- after some slots of a transfer alone
-  pub played_to : (n : ℕ) (t : TransferModel) (d : Bank AddressedDevice bs) →
-      last transfers (ports_side cs) n (new_cursor t) (opened_ports cs (devices_to bs cs h d)) ≡ ports_to bs cs h (last transfers (ports_side bs) n (new_cursor t) (opened_ports bs d))
-  played_to n t d = ap (last transfers (ports_side cs) n (new_cursor t)) (opened_to d) ∙ last_to transfers (ports_side bs) (ports_side cs) (side_to bs cs h) n (new_cursor t) (opened_ports bs d)
+  module _ (n : ℕ) (t : TransferModel) (d : Bank AddressedDevice bs) where
+    pub played_to : last transfers Q n (new_cursor t) (opened_ports cs (devices_to h d)) ≡
+        ports_to h (last transfers P n (new_cursor t) (opened_ports bs d))
+    played_to = ap (last transfers Q n (new_cursor t)) (opened_to d)
+        ∙ last_to transfers P Q goes n (new_cursor t) (opened_ports bs d)
 
-  pub spelled_to : (n : ℕ) (t : TransferModel) (d : Bank AddressedDevice bs) →
-      string transfers (ports_side cs) n (new_cursor t) (opened_ports cs (devices_to bs cs h d)) ≡ string transfers (ports_side bs) n (new_cursor t) (opened_ports bs d)
-  spelled_to n t d = ap (string transfers (ports_side cs) n (new_cursor t)) (opened_to d) ∙ string_to transfers (ports_side bs) (ports_side cs) (side_to bs cs h) n (new_cursor t) (opened_ports bs d)
+    pub spelled_to : string transfers Q n (new_cursor t) (opened_ports cs (devices_to h d)) ≡
+        string transfers P n (new_cursor t) (opened_ports bs d)
+    spelled_to = ap (string transfers Q n (new_cursor t)) (opened_to d)
+        ∙ string_to transfers P Q goes n (new_cursor t) (opened_ports bs d)
+
+    ended_to : final transfers Q n (new_cursor t) (opened_ports cs (devices_to h d)) ≡
+        final transfers P n (new_cursor t) (opened_ports bs d)
+    ended_to = ap (final transfers Q n (new_cursor t)) (opened_to d)
+        ∙ final_to transfers P Q goes n (new_cursor t) (opened_ports bs d)
 
   module _ (t : TransferModel) (d : Bank AddressedDevice bs) (k : IsLegal t) where
     abbrev n : ℕ
     n = slots_left (new_cursor t)
 
-    pub carried_devices : (transfer_result cs t (devices_to bs cs h d)).devices ≡ devices_to bs cs h (transfer_result bs t d).devices
-    carried_devices = idle_same cs (transfer_result cs t (devices_to bs cs h d)).devices (devices_to bs cs h (transfer_result bs t d).devices)
-        (sym (carried_alone cs t (devices_to bs cs h d) n k (le_refl n)).same_devices
-        ∙ (played_to n t d ∙ (ap (ports_to bs cs h) (carried_alone bs t d n k (le_refl n)).same_devices ∙ sym (idle_to bs cs h (transfer_result bs t d).devices))))
+    abbrev here : Agrees bs t d n
+    here = carried_alone bs t d n k (le_refl n)
 
-    pub carried_outcome : (transfer_result cs t (devices_to bs cs h d)).outcome ≡ (transfer_result bs t d).outcome
-    carried_outcome = sym (carried_alone cs t (devices_to bs cs h d) n k (le_refl n)).same_outcome
-        ∙ (ap outcome_of (ap (final transfers (ports_side cs) n (new_cursor t)) (opened_to d) ∙ final_to transfers (ports_side bs) (ports_side cs) (side_to bs cs h) n (new_cursor t) (opened_ports bs d))
-        ∙ (carried_alone bs t d n k (le_refl n)).same_outcome)
+    abbrev there : Agrees cs t (devices_to h d) n
+    there = carried_alone cs t (devices_to h d) n k (le_refl n)
+
+    pub carried_devices : (transfer_result cs t (devices_to h d)).devices ≡ devices_to h (transfer_result bs t d).devices
+    carried_devices = let e = (transfer_result bs t d).devices in
+        idle_same cs (transfer_result cs t (devices_to h d)).devices (devices_to h e)
+        (sym there.same_devices ∙ (played_to n t d ∙ (ap (ports_to h) here.same_devices ∙ sym (idle_to h e))))
+
+    pub carried_outcome : (transfer_result cs t (devices_to h d)).outcome ≡ (transfer_result bs t d).outcome
+    carried_outcome = sym there.same_outcome ∙ (ap outcome_of (ended_to n t d) ∙ here.same_outcome)

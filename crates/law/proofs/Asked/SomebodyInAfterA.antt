@@ -1,5 +1,6 @@
 -- A transfer played alone, after an A for the call of a leg or for a byte written in it: the ports are those of the leg's devices after the bytes so far, and somebody is in.
-use Rattle.std.proofs.Common.{◌≡◌, ℕ, zero, suc, ◌+◌, ◌*◌, ◌<◌, ◌≤◌, Bool, true, false, cond, List, [], ◌∷◌, ◌++◌, length, take, map, Some, None, Option, sym, refl, ap, ◌∙◌, subst, arith}
+use Rattle.std.proofs.Common.{◌≡◌, ℕ, zero, suc, ◌+◌, ◌*◌, ◌<◌, ◌≤◌, Bool, true, false, cond, List, [], ◌∷◌, ◌++◌}
+use Rattle.std.proofs.Common.{length, take, map, Some, None, Option, sym, refl, ap, ◌∙◌, subst, arith}
 use Rattle.std.specs.Prelude.{slice_index_or}
 use Rattle.transfer.specs.declared.leg.Direction.TheVariants.{Write}
 use Rattle.transfer.specs.declared.outcome.OutcomeKind.{OutcomeKind}
@@ -13,7 +14,9 @@ use Rattle.master.specs.Script.{Script, transfers}
 use Rattle.port.specs.Port.{PortModel}
 use Rattle.law.specs.AskedLaw.{leg_of, acknowledge_at, body_writes}
 use Rattle.law.specs.Bank.{Bank, bank_map}
-use Rattle.law.specs.TransferResult.{AddressedDevice, DeviceInLeg, device_after_take, device_after_leg, call_byte, byte_levels, LegResult, leg_end, any_in, write_result, read_result, body_result, leg_result, result_after_leg, transfer_result}
+use Rattle.law.specs.TransferResult.{AddressedDevice, DeviceInLeg, device_after_take, device_after_leg, call_byte}
+use Rattle.law.specs.TransferResult.{byte_levels, LegResult, leg_end, any_in, write_result, read_result, body_result}
+use Rattle.law.specs.TransferResult.{leg_result, result_after_leg, transfer_result}
 use Rattle.law.specs.Facts.{devices_after_puts, write_leg}
 use Rattle.law.specs.Legal.{IsLegalBody, IsLegalLeg, IsLegalSecond, IsLegal}
 use Rattle.law.specs.Letter.{Letter, zero as low, stop, restart, one, bit_letter}
@@ -21,7 +24,8 @@ use Rattle.law.proofs.FarSide.{Side, ends as ends_with, heard, after, string, la
 use Rattle.law.proofs.Alone.ByteLawsHold.{took, ninth, later, nine}
 use Rattle.law.proofs.Alone.PlayedIsCarried.{carried_alone}
 use Rattle.law.proofs.Alone.LegBitByBit.{calls, notes, closing, address_plays, written_plays, leg_plays}
-use Rattle.law.proofs.Alone.PortsWithinByte.{addressing_at, writing_at, acknowledging_at, called_for, put_to_all, write_on, ready, gets_ready, opened_is}
+use Rattle.law.proofs.Alone.PortsWithinByte.{addressing_at, writing_at, acknowledging_at, called_for, put_to_all}
+use Rattle.law.proofs.Alone.PortsWithinByte.{write_on, ready, gets_ready, opened_is}
 use Rattle.law.proofs.Alone.PortsAsSide.{ports_side}
 use Rattle.law.proofs.Alone.SlotsOfLevels.{Carries, low_bits, level_slot, Slot}
 use Rattle.law.proofs.Alone.SlotsRunOut.{slots_left}

@@ -1,5 +1,6 @@
 -- Who is told at a stop: the outcome is its own, and its steps are those that the devices take.
-use Rattle.std.proofs.Common.{◌≡◌, ℕ, zero, suc, ◌+◌, Bool, true, false, cond, not, List, [], ◌∷◌, map, Some, None, Option, sym, refl, ap, ◌∙◌, arith}
+use Rattle.std.proofs.Common.{◌≡◌, ℕ, zero, suc, ◌+◌, Bool, true, false, cond, not, List, [], ◌∷◌, map, Some, None}
+use Rattle.std.proofs.Common.{Option, sym, refl, ap, ◌∙◌, arith}
 use Rattle.std.specs.Prelude.{slice_index_or}
 use Rattle.std.specs.Option.{option_map}
 use Rattle.transfer.specs.Transfer.{TransferModel}
@@ -13,7 +14,8 @@ use Rattle.master.specs.Script.{Script, transfers}
 use Rattle.wire.specs.declared.event.Event.{Event}
 use Rattle.wire.specs.declared.event.Event.TheVariants.{Rise, Fall, Start, Stop, SteadyHigh, SteadyLow}
 use Rattle.law.specs.Bank.{Bank, bank_list}
-use Rattle.law.specs.Book.{Entry, outcome_if_least, outcomes_of_turn, told_at_stop, book_told, Turn, closed, opened, Book, least_result, devices_after, contender_results, book_after_stop, book_after}
+use Rattle.law.specs.Book.{Entry, outcome_if_least, outcomes_of_turn, told_at_stop, book_told, Turn, closed, opened}
+use Rattle.law.specs.Book.{Book, least_result, devices_after, contender_results, book_after_stop, book_after}
 use Rattle.law.specs.TransferResult.{AddressedDevice, TransferResult, transfer_result}
 use Rattle.law.specs.Legal.{IsLegal}
 use Rattle.law.specs.Letter.{Letter, zero as low, stop, restart, one, same_string}
