@@ -27,6 +27,7 @@ use Rattle.law.specs.Facts.{read_leg}
 use Rattle.law.proofs.Alone.ByteLawsHold.{took, mask}
 use Rattle.law.proofs.Asked.DeviceMaps.{device_addresses}
 use Rattle.law.proofs.Asked.NotesAreAsks.{NotingDevices, NotingInLeg}
+use Rattle.law.proofs.Asked.SomebodyInAfterA.{settled}
 use Rattle.law.proofs.Asked.NotesOfLeg.{one_call, Since, calls_since, gave_if, Together, together_still, gives_in}
 use Rattle.law.proofs.Asked.NotesOfLeg.{After, AfterRead, leg_noted, read_leg_noted}
 use Rattle.law.proofs.Alone.PortsWithinByte.{joined_byte, called_for, put_to_all}
@@ -217,10 +218,6 @@ module _ (es : List Behaviour) where
       go : (t : Bool) → any_in es e ≡ t → (r t).kind ≡ Done → Answered l g d (r t)
       go true i k = (refl, refl, i)
       go false i k = cc
-
-  -- the devices after a leg
-  abbrev settled : LegResult es → Bank AddressedDevice es
-  settled r = bank_map device_after_leg es r.devices
 
 module _ (ds : List Behaviour) (d : Bank AddressedDevice ds) (a n y : ℕ) (h : y < n) where
   abbrev rs : List Behaviour
