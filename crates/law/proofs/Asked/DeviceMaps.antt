@@ -1,4 +1,4 @@
--- Maps of meanings that commute with the steps of a device carry along ports, a script played alone and a transfer carried alone.
+-- Maps of meanings that commute with the steps of devices carry along ports, and a transfer played or carried alone.
 use Rattle.std.proofs.Common.{◌≡◌, ℕ, zero, suc, Bool, true, false, cond, not, ◌||◌, List, [], ◌∷◌, Option, sym, refl}
 use Rattle.std.proofs.Common.{ap, ◌∙◌, le_refl, arith}
 use Rattle.transfer.specs.declared.leg.Direction.{Direction}
@@ -41,23 +41,26 @@ pub data Morphisms : List Behaviour → List Behaviour → Type 1 where
   also : (b c : Behaviour) (bs cs : List Behaviour) → Morphism b c → Morphisms bs cs → Morphisms (b ∷ bs) (c ∷ cs)
 
 module _ (b c : Behaviour) (h : Morphism b c) where
-  abbrev pub placed_to : AddressedDevice b → AddressedDevice c
+  abbrev placed_to : AddressedDevice b → AddressedDevice c
   placed_to d = record { address = d.address; meaning = h.to d.meaning }
 
   abbrev pub port_to : PortModel b → PortModel c
   port_to p = record { address = p.address; meaning = h.to p.meaning; owed = p.owed; mode = p.mode; hold = p.hold }
 
-  pub counts_to : (p : PortModel b) (m : Mode) (x : Bool) (n : ℕ) → port_after_bit c (port_to p) m x n ≡ port_to (port_after_bit b p m x n)
+  counts_to : (p : PortModel b) (m : Mode) (x : Bool) (n : ℕ) →
+      port_after_bit c (port_to p) m x n ≡ port_to (port_after_bit b p m x n)
   counts_to p m x n = grind (arith, h.selects, h.puts, h.takes)
 
   settles_if : (v : Bool) (m : b.Meaning) → cond v (c.finish (h.to m)) (h.to m) ≡ h.to (cond v (b.finish m) m)
   settles_if true m = h.finishes m
   settles_if false m = refl
 
-  pub settles_to : (p : PortModel b) (m : Mode) → port_after_finish c (port_to p) m ≡ port_to (port_after_finish b p m)
-  settles_to p m = ap (λ z. record { address = p.address; meaning = z; owed = false; mode = m; hold = p.hold }) (settles_if p.owed p.meaning)
+  settles_to : (p : PortModel b) (m : Mode) → port_after_finish c (port_to p) m ≡ port_to (port_after_finish b p m)
+  settles_to p m =
+      ap (λ z. record { address = p.address; meaning = z; owed = false; mode = m; hold = p.hold }) (settles_if p.owed p.meaning)
 
-  pub sees_to : (p : PortModel b) (e : Event) (o : Option Bool) (n : ℕ) → port_after_event c (port_to p) e o n ≡ port_to (port_after_event b p e o n)
+  pub sees_to : (p : PortModel b) (e : Event) (o : Option Bool) (n : ℕ) →
+      port_after_event c (port_to p) e o n ≡ port_to (port_after_event b p e o n)
   sees_to p e o n = grind (arith, counts_to p p.mode, settles_to p)
 
 abbrev pub devices_to : {bs cs : List Behaviour} → Morphisms bs cs → Bank AddressedDevice bs → Bank AddressedDevice cs
@@ -103,19 +106,19 @@ pub addresses_to : {bs cs : List Behaviour} (h : Morphisms bs cs) (s : Bank Port
 addresses_to empty s = refl
 addresses_to (also b c bs cs f h) s = ap (λ l. s.0.address ∷ l) (addresses_to h s.1)
 
--- the side
-pub side_bit : {bs cs : List Behaviour} (h : Morphisms bs cs) (s : Bank PortModel bs) (x : Bool) →
+-- so the side of the mapped ports goes as the side of the ports
+side_bit : {bs cs : List Behaviour} (h : Morphisms bs cs) (s : Bank PortModel bs) (x : Bool) →
     bank_map (counting x) cs (ports_to h s) ≡ ports_to h (bank_map (counting x) bs s)
 side_bit empty s x = refl
 side_bit (also b c bs cs f h) s x = λ i. (counts_to b c f s.0 s.0.mode x 0 i, side_bit h s.1 x i)
 
-pub side_settles : {bs cs : List Behaviour} (h : Morphisms bs cs) (s : Bank PortModel bs) (m : Mode) →
+side_settles : {bs cs : List Behaviour} (h : Morphisms bs cs) (s : Bank PortModel bs) (m : Mode) →
     bank_map (λ b p. port_after_finish b p m) cs (ports_to h s) ≡
     ports_to h (bank_map (λ b p. port_after_finish b p m) bs s)
 side_settles empty s m = refl
 side_settles (also b c bs cs f h) s m = λ i. (settles_to b c f s.0 m i, side_settles h s.1 m i)
 
-pub side_pulling : {bs cs : List Behaviour} (h : Morphisms bs cs) (s : Bank PortModel bs) →
+side_pulling : {bs cs : List Behaviour} (h : Morphisms bs cs) (s : Bank PortModel bs) →
     any pulling cs (ports_to h s) ≡ any pulling bs s
 side_pulling empty s = refl
 side_pulling (also b c bs cs f h) s = ap (λ v. pulling b s.0 || v) (side_pulling h s.1)
@@ -128,7 +131,7 @@ pub record SideMorphism (D E : Side) : Type 0 where
   pub begin : (s : D.S) → E.begin (to s) ≡ to (D.begin s)
   pub finish : (s : D.S) → E.finish (to s) ≡ to (D.finish s)
 
-abbrev pub side_to : (bs cs : List Behaviour) → Morphisms bs cs → SideMorphism (ports_side bs) (ports_side cs)
+abbrev side_to : (bs cs : List Behaviour) → Morphisms bs cs → SideMorphism (ports_side bs) (ports_side cs)
 side_to bs cs h = record {
   to = ports_to h;
   pulls = side_pulling h;
@@ -138,6 +141,7 @@ side_to bs cs h = record {
 }
 
 module _ (W : Script) (D E : Side) (h : SideMorphism D E) where
+  -- slot by slot
   letter_to : (x : Symbol) (s : D.S) → letter E x (h.to s) ≡ letter D x s
   letter_to Zero s = refl
   letter_to One s = refl
@@ -160,9 +164,11 @@ module _ (W : Script) (D E : Side) (h : SideMorphism D E) where
   after_to Stop s = h.finish s
 
   -- a script that plays against both spells the same, and leaves the one as the other
-  pub string_to : (n : ℕ) (c : W.Cursor) (s : D.S) → string W E n c (h.to s) ≡ string W D n c s
+  string_to : (n : ℕ) (c : W.Cursor) (s : D.S) → string W E n c (h.to s) ≡ string W D n c s
   string_to zero c s = refl
-  string_to (suc n) c s = let x = W.symbol c in let q = W.next c (heard D x s) in
+  string_to (suc n) c s =
+      let x = W.symbol c in
+      let q = W.next c (heard D x s) in
       (λ i. letter_to x s i ∷ cond (ends x) [] (string W E n (W.next c (heard_to x s i)) (after_to x s i)))
       ∙ ap (λ l. letter D x s ∷ cond (ends x) [] l) (string_to n q (after D x s))
 
@@ -170,15 +176,20 @@ module _ (W : Script) (D E : Side) (h : SideMorphism D E) where
   last_if true s t u e = refl
   last_if false s t u e = e
 
-  pub last_to : (n : ℕ) (c : W.Cursor) (s : D.S) → last W E n c (h.to s) ≡ h.to (last W D n c s)
+  last_to : (n : ℕ) (c : W.Cursor) (s : D.S) → last W E n c (h.to s) ≡ h.to (last W D n c s)
   last_to zero c s = refl
-  last_to (suc n) c s = let x = W.symbol c in let q = W.next c (heard D x s) in
+  last_to (suc n) c s =
+      let x = W.symbol c in
+      let u = after D x s in
+      let q = W.next c (heard D x s) in
       (λ i. cond (ends x) (after_to x s i) (last W E n (W.next c (heard_to x s i)) (after_to x s i)))
-      ∙ last_if (ends x) (after D x s) (last W D n q (after D x s)) (last W E n q (h.to (after D x s))) (last_to n q (after D x s))
+      ∙ last_if (ends x) u (last W D n q u) (last W E n q (h.to u)) (last_to n q u)
 
-  pub final_to : (n : ℕ) (c : W.Cursor) (s : D.S) → final W E n c (h.to s) ≡ final W D n c s
+  final_to : (n : ℕ) (c : W.Cursor) (s : D.S) → final W E n c (h.to s) ≡ final W D n c s
   final_to zero c s = refl
-  final_to (suc n) c s = let x = W.symbol c in let q = W.next c (heard D x s) in
+  final_to (suc n) c s =
+      let x = W.symbol c in
+      let q = W.next c (heard D x s) in
       (λ i. cond (ends x) c (final W E n (W.next c (heard_to x s i)) (after_to x s i)))
       ∙ ap (λ f. cond (ends x) c f) (final_to n q (after D x s))
 
@@ -190,7 +201,7 @@ devices_of_idle (b ∷ ds) d = ap (λ r. (d.0, r)) (devices_of_idle ds d.1)
 pub idle_same : (ds : List Behaviour) (d e : Bank AddressedDevice ds) → idle_ports ds d ≡ idle_ports ds e → d ≡ e
 idle_same ds d e q = sym (devices_of_idle ds d) ∙ (ap (devices_at ds) q ∙ devices_of_idle ds e)
 
-pub idle_to : {bs cs : List Behaviour} (h : Morphisms bs cs) (d : Bank AddressedDevice bs) →
+idle_to : {bs cs : List Behaviour} (h : Morphisms bs cs) (d : Bank AddressedDevice bs) →
     idle_ports cs (devices_to h d) ≡ ports_to h (idle_ports bs d)
 idle_to empty d = refl
 idle_to (also b c bs cs f h) d = λ i. (port_to b c f (idle_ports (b ∷ bs) d).0, idle_to h d.1 i)
@@ -205,7 +216,7 @@ module _ (bs cs : List Behaviour) (h : Morphisms bs cs) where
   abbrev goes : SideMorphism P Q
   goes = side_to bs cs h
 
-  pub opened_to : (d : Bank AddressedDevice bs) → opened_ports cs (devices_to h d) ≡ ports_to h (opened_ports bs d)
+  opened_to : (d : Bank AddressedDevice bs) → opened_ports cs (devices_to h d) ≡ ports_to h (opened_ports bs d)
   opened_to d = ap Q.begin (idle_to h d) ∙ goes.begin (idle_ports bs d)
 
   -- after some slots of a transfer alone

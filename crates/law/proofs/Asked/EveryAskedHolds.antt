@@ -63,6 +63,7 @@ unmarked_after (v ∷ vs) (k ∷ ks) zero e n = ap (λ w. w || is_lost k) e ∙ 
   not_lost Lost n = absurd (n refl)
 unmarked_after (v ∷ vs) (k ∷ ks) (suc i) e n = unmarked_after vs ks i e n
 
+-- the letter behind these
 last_low : (ts : List Letter) (n : ℕ) → length ts ≡ n → slice_index_or (ts ++ (low ∷ [])) n one ≡ low
 last_low ts n e = let m : n ≡ length ts + 0 = omega arith in
     ap (λ i. slice_index_or (ts ++ (low ∷ [])) i one) m ∙ get_or-append-add ts (low ∷ []) 0 one
@@ -128,7 +129,8 @@ module _ (hs : List HostBehaviour) (ds : List Behaviour) where
           let stops = (tells_at_stop hs es y.book i t mine o e tells).0 in
           both.noting_law_next.point.devices (ap (busy_after y.bus.wire.busy) stops)
           ∙ (devices_won hs es y.book i t mine o e tells
-          ∙ (ap (λ z. (transfer_result es t z).devices) (sym again) ∙ carried_devices es es after_before t new (legal i t c)))
+          ∙ (ap (λ z. (transfer_result es t z).devices) (sym again)
+          ∙ carried_devices es es after_before t new (legal i t c)))
 
       once : steps_then hs ds x ≡ steps_alone ds t d
       once = sym (cancelled (steps_alone ds t d) (length_noted ds result.devices)
@@ -170,6 +172,7 @@ module _ (hs : List HostBehaviour) (ds : List Behaviour) where
       turn_too : then.book.turn ≡ opened
       turn_too = ap (λ b. b.turn) same_book ∙ (s.turn ∙ hears.turn)
 
+      -- what the monitor saw before it marks
       saw : (F : List Behaviour) (z : Use hs F) → z.book.turn ≡ opened → event_at hs F z.bus ≡ Fall →
           monitor_after hs F z.watch z.book (event_at hs F z.bus) ≡ monitor_after_event z.watch Fall
       saw F z o e =
@@ -184,7 +187,8 @@ module _ (hs : List HostBehaviour) (ds : List Behaviour) where
       -- nobody is marked at a fall
       nobody_lost : (i : ℕ) → slice_index_or (marks_of hs ds x.bus) i Quiet ≡ Lost → ⊥
       nobody_lost i e =
-          let z : false ≡ true = sym (ap (λ w. w.risen) (saw ds x hears.turn hears.fall)) ∙ (both.law_here.tick.loses i e).risen in
+          let fallen = ap (λ w. w.risen) (saw ds x hears.turn hears.fall) in
+          let z : false ≡ true = sym fallen ∙ (both.law_here.tick.loses i e).risen in
           cc
 
       contends_then : (i : ℕ) (t : TransferModel) → Contends hs ds x i t → Contends hs es then i t
@@ -218,12 +222,17 @@ module _ (hs : List HostBehaviour) (ds : List Behaviour) where
       abbrev Answers : List ℕ → List (List Step) → Type 0
       Answers os rs = AtSomePort os rs g.address (Acknowledged g.body n)
 
-      reached_by : IsLegal t → (then.watch.spelled ≡ []) ⊎ SoFarAlone hs es then t → Answers (addresses hs ds x) (steps_then hs ds x)
-      reached_by l (inl z) = absurd (let q : length then.watch.spelled ≡ 0 = ap length z in let r = spelled_long in omega arith)
+      reached_by : IsLegal t → (then.watch.spelled ≡ []) ⊎ SoFarAlone hs es then t →
+          Answers (addresses hs ds x) (steps_then hs ds x)
+      reached_by l (inl z) =
+          let q : length then.watch.spelled ≡ 0 = ap length z in
+          let r = spelled_long in
+          absurd (omega arith)
       reached_by l (inr f) =
           let m = f.slots_gone in
-          let string_of = λ (q : NotingDevices ds). string transfers (ports_side es) m (new_cursor t) (opened_ports es q) in
-          let ports_of = λ (j : ℕ) (q : NotingDevices ds). last transfers (ports_side es) j (new_cursor t) (opened_ports es q) in
+          let c = new_cursor t in
+          let string_of = λ (q : NotingDevices ds). string transfers (ports_side es) m c (opened_ports es q) in
+          let ports_of = λ (j : ℕ) (q : NotingDevices ds). last transfers (ports_side es) j c (opened_ports es q) in
           let gone : m ≡ suc place = sym f.many ∙ spelled_long in
           let side : NotingPorts ds = ports_of (suc place) new in
           let devices : then.book.devices ≡ devices_to after_before new = ap (λ b. b.devices) same_book ∙ sym again in
@@ -233,7 +242,8 @@ module _ (hs : List HostBehaviour) (ds : List Behaviour) where
           ∙ (ap (λ l. slice_index_or l place one) spelled ∙ last_low hears.so_far place hears.place) in
           let same_side : bank_map unheld es then.bus.ports ≡ ports_to after_before side = f.ports
           ∙ (ap₂ ports_of gone devices ∙ played_to es es after_before (suc place) t new) in
-          let noted : noted_by ds side ≡ steps_then hs ds x = cancelled (noted_by ds side) (length_noted ds (devices_at es side))
+          let many = length_noted ds (devices_at es side) in
+          let noted : noted_by ds side ≡ steps_then hs ds x = cancelled (noted_by ds side) many
           (sym (noted_by_after ds y.book.devices side)
           ∙ (sym (ap (noted_by ds) same_side) ∙ (noted_unheld ds then.bus.ports ∙ noted_then))) in
           let placed : port_addresses es side ≡ addresses hs ds x = sym (addresses_to after_before side)

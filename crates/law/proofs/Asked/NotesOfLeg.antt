@@ -24,6 +24,7 @@ NoSelect (put x v ∷ ss) = NoSelect ss
 NoSelect (take x ∷ ss) = NoSelect ss
 NoSelect (finish ∷ ss) = NoSelect ss
 
+-- steps with no select among them are all of one call, and hold no further call
 all_before : (ms : List Step) → NoSelect ms → before_select ms ≡ ms
 all_before [] h = refl
 all_before (select r v ∷ ms) h = elim h [ ]
@@ -45,6 +46,7 @@ one_step (put x v ∷ ms) s h k = one_step ms s h k
 one_step (take x ∷ ms) s h k = one_step ms s h k
 one_step (finish ∷ ms) s h k = one_step ms s h k
 
+-- what is handed over in steps and in those behind them
 handed_on : (ms ls : List Step) → bytes_handed (ms ++ ls) ≡ bytes_handed ms ++ bytes_handed ls
 handed_on [] ls = refl
 handed_on (select r v ∷ ms) ls = handed_on ms ls
@@ -52,6 +54,7 @@ handed_on (put x v ∷ ms) ls = handed_on ms ls
 handed_on (take x ∷ ms) ls = ap (λ l. x ∷ l) (handed_on ms ls)
 handed_on (finish ∷ ms) ls = handed_on ms ls
 
+-- a further select takes nothing from the steps before the first
 before_next : (ks ms : List Step) (r : Direction) (v : Bool) → before_select (ks ++ (select r v ∷ ms)) ≡ before_select ks
 before_next [] ms r v = refl
 before_next (select q w ∷ ks) ms r v = refl
@@ -146,7 +149,8 @@ module _ (a : ℕ) (b : Behaviour) (d : AddressedDevice (noting_steps b)) where
     pub since : Since matches hs d.meaning.steps p.meaning.steps
 
   call_in : (r : Direction) → InLeg [] (device_after_call N a r d)
-  call_in r = cond_both matches (device_after_select N d (N.select d.meaning r)) (device_after_select N d (false, d.meaning)) (InLeg [])
+  call_in r = cond_both matches
+      (device_after_select N d (N.select d.meaning r)) (device_after_select N d (false, d.meaning)) (InLeg [])
       (λ e. record {
         address = refl;
         since = inl (
@@ -208,7 +212,8 @@ module _ (a : ℕ) (b : Behaviour) (d : AddressedDevice (noting_steps b)) where
       (λ i. record {
         so_far = xs ++ (q.0 ∷ []);
         within = step_in xs p (take q.0) q.1 true tt i h.within;
-        whole = append_assoc xs (q.0 ∷ []) (gave_if b true n q.1) ∙ (ap (λ t. xs ++ gave_if b t (suc n) m) (sym i) ∙ h.whole);
+        whole = append_assoc xs (q.0 ∷ []) (gave_if b true n q.1)
+            ∙ (ap (λ t. xs ++ gave_if b t (suc n) m) (sym i) ∙ h.whole);
       })
       (λ i. record {
         so_far = xs;
@@ -221,15 +226,17 @@ module _ (a : ℕ) (b : Behaviour) (d : AddressedDevice (noting_steps b)) where
       subst (λ l. InLeg l p) (sym (append-nil h.so_far) ∙ (ap (λ l. h.so_far ++ l) (sym none) ∙ h.whole)) h.within
 
 -- something holds of each device and the same later
-abbrev pub Relates : (Behaviour → Type 0) → Type 1
+abbrev Relates : (Behaviour → Type 0) → Type 1
 Relates F = (b : Behaviour) → AddressedDevice (noting_steps b) → F (noting_steps b) → Type 0
 
-abbrev pub Together : (F : Behaviour → Type 0) → Relates F → (ds : List Behaviour) → NotingDevices ds → Bank F (all_noting_steps ds) → Type 0
+abbrev pub Together : (F : Behaviour → Type 0) → Relates F →
+    (ds : List Behaviour) → NotingDevices ds → Bank F (all_noting_steps ds) → Type 0
 Together F R [] d e = Unit {0}
 Together F R (b ∷ ds) d e = R b d.0 e.0 × Together F R ds d.1 e.1
 
 together_each : (F G : Behaviour → Type 0) (R : Relates F) (S : Relates G) (g : (b : Behaviour) → F b → G b) →
-    ((b : Behaviour) (d : AddressedDevice (noting_steps b)) (p : F (noting_steps b)) → R b d p → S b d (g (noting_steps b) p)) →
+    ((b : Behaviour) (d : AddressedDevice (noting_steps b)) (p : F (noting_steps b)) →
+    R b d p → S b d (g (noting_steps b) p)) →
     (ds : List Behaviour) (d : NotingDevices ds) (e : Bank F (all_noting_steps ds)) →
     Together F R ds d e → Together G S ds d (bank_map g (all_noting_steps ds) e)
 together_each F G R S g f [] d e h = tt
@@ -252,11 +259,11 @@ together_still F R S f (b ∷ ds) d e h = (f b d.0 e.0 h.0, together_still F R S
 abbrev pub gives_in : ℕ → ℕ → (b : Behaviour) → AddressedDevice (noting_steps b) → List ℕ
 gives_in a n b d = let p = device_after_call (noting_steps b) a Read d in gave_if b p.inside n p.meaning.meaning
 
--- what holds of the devices after a byte, acknowledged or not
-took_devices : (es : List Behaviour) (P : Bank DeviceInLeg es → Type 0) (x : ℕ) (r s : LegResult es) (t : Bool) →
-    P r.devices → P s.devices → P (took es x r s t).devices
-took_devices es P x r s true p q = p
-took_devices es P x r s false p q = q
+-- a written byte, acknowledged or not, changes neither the devices nor the bytes read
+pub took_keeps : (es : List Behaviour) (P : List ℕ → Bank DeviceInLeg es → Type 0) (x : ℕ) (r s : LegResult es) (t : Bool) →
+    P r.bytes r.devices → P s.bytes s.devices → let u = took es x r s t in P u.bytes u.devices
+took_keeps es P x r s true p q = p
+took_keeps es P x r s false p q = q
 
 module _ (a : ℕ) where
   abbrev In : Relates DeviceInLeg
@@ -291,7 +298,7 @@ module _ (a : ℕ) where
     write_noted l (x ∷ xs) n d e h =
         let w = put_to_all es x e in
         let z = put_noted x d e h in
-        took_devices es (Together DeviceInLeg In ds d) x (write_result es l xs (suc n) w)
+        took_keeps es (λ xs w. Together DeviceInLeg In ds d w) x (write_result es l xs (suc n) w)
         (leg_end es (Refused (record { leg = l; byte = n })) w) (any_in es w) (write_noted l xs (suc n) d w z) z
 
     read_noted : (c n : ℕ) (d : NotingDevices ds) (e : NotingInLeg ds) →
@@ -319,15 +326,18 @@ module _ (a : ℕ) where
         (read_result es n (called_for es a Read d)).devices (read_called n d)
 
     -- after a leg
-    pub leg_noted : (l : ℕ) (g : BodyModel) (d : NotingDevices ds) → let r = leg_result es l (record { address = a; body = g }) d in
+    pub leg_noted : (l : ℕ) (g : BodyModel) (d : NotingDevices ds) →
+        let r = leg_result es l (record { address = a; body = g }) d in
         Together AddressedDevice After ds d (bank_map device_after_leg es r.devices)
     leg_noted l g d =
         let e = called_for es a (body_direction g) d in
-        together_each DeviceInLeg AddressedDevice In After device_after_leg (λ b d p q. (q.0, settle_in a b d q.0 p q.1)) ds d
+        together_each DeviceInLeg AddressedDevice In After device_after_leg
+        (λ b d p q. (q.0, settle_in a b d q.0 p q.1)) ds d
         (leg_result es l (record { address = a; body = g }) d).devices
-        (took_devices es (Together DeviceInLeg In ds d) (call_byte a g) (body_result es l g e)
+        (took_keeps es (λ xs w. Together DeviceInLeg In ds d w) (call_byte a g) (body_result es l g e)
         (leg_end es (NoAnswer (record { leg = l })) e) (any_in es e) (body_noted l g d) (called_noted (body_direction g) d))
 
+    -- and after a read that is called for
     pub read_leg_noted : (c : ℕ) (d : NotingDevices ds) → let r = read_result es c (called_for es a Read d) in
         Together AddressedDevice (AfterRead c) ds d (bank_map device_after_leg es r.devices)
     read_leg_noted c d =

@@ -1,4 +1,4 @@
--- Beside each use of a bus goes that of the bus of noting devices, which since a turn opened have noted what was asked in it.
+-- Beside each use of a bus goes one of a bus of noting devices, which have noted what was asked since the turn opened.
 use Rattle.std.proofs.Common.{◌≡◌, ℕ, zero, suc, Bool, true, false, cond, ◌||◌, ltb, ◌⊎◌, List, [], ◌∷◌, ◌++◌}
 use Rattle.std.proofs.Common.{append-nil, ap₂, length, Option, sym, refl, ap, ◌∙◌, subst, inl, inr, arith}
 use Rattle.std.proofs.lemmas.Bool.{cond_both}
@@ -10,6 +10,7 @@ use Rattle.port.specs.declared.port.Mode.{Mode}
 use Rattle.port.specs.Port.{steps_asked, PortModel, port_after_bit, port_after_event as port_sees, reset_port}
 use Rattle.wire.specs.declared.event.Event.{Event}
 use Rattle.wire.specs.declared.event.Event.TheVariants.{Rise, Fall, Start, Stop, SteadyHigh, SteadyLow}
+use Rattle.wire.specs.declared.levels.Levels.{Levels}
 use Rattle.wire.specs.declared.wire.Signal.{Signal}
 use Rattle.wire.specs.Pulls.{pulls_or, levels_of}
 use Rattle.wire.specs.Event.{event_between}
@@ -48,9 +49,10 @@ module _ (hs : List HostBehaviour) (ds : List Behaviour) (P : Use hs ds → Type
   call_keeps : (x : Use hs ds) (c : Call hs ds) → P x → P (use_after_call hs ds x c)
   call_keeps x (arms n) p = armed x n p
   call_keeps x (ticks a) p = ticked x a p
-  call_keeps x (runs n a) p = cond_both (ltb most_ticks n) x (use_after_ticks hs ds n 0 a x) P (λ e. p) (λ e. run_keeps n 0 a x p)
+  call_keeps x (runs n a) p =
+      cond_both (ltb most_ticks n) x (use_after_ticks hs ds n 0 a x) P (λ e. p) (λ e. run_keeps n 0 a x p)
 
-  pub calls_keep : (x : Use hs ds) (cs : List (Call hs ds)) → P x → P (use_after hs ds x cs)
+  calls_keep : (x : Use hs ds) (cs : List (Call hs ds)) → P x → P (use_after hs ds x cs)
   calls_keep x [] p = p
   calls_keep x (c ∷ cs) p = calls_keep (use_after_call hs ds x c) cs (call_keeps x c p)
 
@@ -85,14 +87,16 @@ module _ (hs : List HostBehaviour) (ds : List Behaviour) where
   abbrev opening : Book hs ds → Book hs ds
   opening b = record { entries = bank_map entry_contending hs b.entries; devices = b.devices; turn = opened }
 
-  opens_entries : (b : Book hs ds) (v : Turn) → (book_after_opening hs ds b v).entries ≡ entries_after hs b.entries v SteadyHigh []
+  opens_entries : (b : Book hs ds) (v : Turn) →
+      (book_after_opening hs ds b v).entries ≡ entries_after hs b.entries v SteadyHigh []
   opens_entries b opened = refl
   opens_entries b closed = go (any_true (bank_list entry_is_armed hs b.entries)) where
     go : (w : Bool) → (cond w (opening b) b).entries ≡ cond w (bank_map entry_contending hs b.entries) b.entries
     go true = refl
     go false = refl
 
-  opens_turn : (b : Book hs ds) (v : Turn) → b.turn ≡ v → (book_after_opening hs ds b v).turn ≡ turn_after hs b.entries v SteadyHigh
+  opens_turn : (b : Book hs ds) (v : Turn) → b.turn ≡ v →
+      (book_after_opening hs ds b v).turn ≡ turn_after hs b.entries v SteadyHigh
   opens_turn b opened e = e
   opens_turn b closed e = go (any_true (bank_list entry_is_armed hs b.entries)) where
     go : (w : Bool) → (cond w (opening b) b).turn ≡ cond w opened closed
@@ -100,7 +104,8 @@ module _ (hs : List HostBehaviour) (ds : List Behaviour) where
     go false = e
 
   closes_entries : (b : Book hs ds) (v : Turn) →
-      (book_after_stop hs ds b v).entries ≡ cond (is_open v) (entries_after_turn hs b.entries (told_at_stop hs ds b v)) b.entries
+      (book_after_stop hs ds b v).entries ≡
+      cond (is_open v) (entries_after_turn hs b.entries (told_at_stop hs ds b v)) b.entries
   closes_entries b opened = refl
   closes_entries b closed = refl
 
@@ -149,6 +154,7 @@ is_stop Fall = inr (λ e. cc)
 is_stop Start = inr (λ e. cc)
 is_stop SteadyLow = inr (λ e. cc)
 
+-- nothing behind leaves a list as it is
 longer_nothing : (ds : List Behaviour) (d : NotingDevices ds) (p : Bank PortModel ds) →
     lists_appended (all_steps ds d) (bank_list (λ b q. []) ds p) ≡ all_steps ds d
 longer_nothing [] d p = refl
@@ -173,22 +179,24 @@ ports_stay [] p s a = refl
 ports_stay (b ∷ ds) p s a = λ i. port_stays b p.0 s.event s.bit a.0.0 i ∷ ports_stay ds p.1 s a.1 i
 
 module _ (hs : List HostBehaviour) (ds : List Behaviour) where
-  abbrev pub es : List Behaviour
+  abbrev es : List Behaviour
   es = all_noting_steps ds
 
   -- the bus without the notes
-  abbrev pub bare : BusModel hs es → BusModel hs ds
+  abbrev bare : BusModel hs es → BusModel hs ds
   bare u = record { wire = u.wire; masters = u.masters; ports = bare_ports ds u.ports }
 
   levels_bare : (u : BusModel hs es) → levels_at hs es u ≡ levels_at hs ds (bare u)
   levels_bare u = ap (λ q. levels_of (pulls_or (all_pulls (bank_list hosted_pulls hs u.masters)) q))
       (sym (pulls_to (forgetting ds) u.ports))
 
-  tick_bare : (u : BusModel hs es) (a : HoldAnswers ds) → bare (tick_at hs es u (same_holds ds a)).1 ≡ (tick_at hs ds (bare u) a).1
+  tick_bare : (u : BusModel hs es) (a : HoldAnswers ds) →
+      bare (tick_at hs es u (same_holds ds a)).1 ≡ (tick_at hs ds (bare u) a).1
   tick_bare u a =
       let v = levels_at hs es u in
       let masters = bank_map (λ h. hosted_step h (signal u.wire v)) hs u.masters in
-      ap (λ p. record { wire = wire_after u.wire v; masters = masters; ports = p }) (steps_bare (signal u.wire v) ds u.ports a)
+      ap (λ p. record { wire = wire_after u.wire v; masters = masters; ports = p })
+      (steps_bare (signal u.wire v) ds u.ports a)
       ∙ ap (λ w. after_levels hs ds (bare u) w a) (levels_bare u)
 
   event_bare : (u : BusModel hs es) → event_at hs es u ≡ event_at hs ds (bare u)
@@ -202,11 +210,12 @@ module _ (hs : List HostBehaviour) (ds : List Behaviour) where
 
   -- what is noted in a tick
   noted_bare : (u : BusModel hs es) (a : HoldAnswers ds) →
-      noted_by ds (tick_at hs es u (same_holds ds a)).1.ports ≡ lists_appended (noted_by ds u.ports) (steps_at hs ds (bare u))
+      noted_by ds (tick_at hs es u (same_holds ds a)).1.ports ≡
+      lists_appended (noted_by ds u.ports) (steps_at hs ds (bare u))
   noted_bare u a =
+      let asked = λ (v : Levels). bank_list (λ b q. steps_asked b q (signal u.wire v)) ds (bare_ports ds u.ports) in
       steps_noted (signal u.wire (levels_at hs es u)) ds u.ports a
-      ∙ ap (λ v. lists_appended (noted_by ds u.ports) (bank_list (λ b q. steps_asked b q (signal u.wire v)) ds (bare_ports ds u.ports)))
-      (levels_bare u)
+      ∙ ap (λ v. lists_appended (noted_by ds u.ports) (asked v)) (levels_bare u)
 
   abbrev asked_so_far : Use hs ds → List (List Step)
   asked_so_far x = cond (is_open x.book.turn) x.asked (no_steps hs ds x.bus)
@@ -322,7 +331,8 @@ module _ (hs : List HostBehaviour) (ds : List Behaviour) where
     watch : then.watch ≡ now.watch
     watch = λ i. monitor_after_marks (monitored hs (s.watch i) (s.turn i) (turn i) (s.entries i) (g i)) (same_marks y x s i)
 
-    free : {F : List Behaviour} → (u : BusModel hs F) → event_at hs F u ≡ Stop → busy_after u.wire.busy (event_at hs F u) ≡ false
+    free : {F : List Behaviour} → (u : BusModel hs F) → event_at hs F u ≡ Stop →
+        busy_after u.wire.busy (event_at hs F u) ≡ false
     free u k = ap (busy_after u.wire.busy) k
 
     devices : bare_devices ds then.book.devices ≡ now.book.devices
@@ -430,7 +440,8 @@ module _ (hs : List HostBehaviour) (ds : List Behaviour) where
           record {
             alongside = b.alongside;
             law_here = subst (Law hs ds) (sym b.is) (law_holds hs ds ms ps clocked cs);
-            law_next = subst (λ z. Law hs ds (use_after_tick hs ds z a)) (sym b.is) (law_then hs ds ms ps clocked cs (ticks a));
+            law_next = subst (λ z. Law hs ds (use_after_tick hs ds z a)) (sym b.is)
+                (law_then hs ds ms ps clocked cs (ticks a));
             at_rest = (subst (Standing hs ds) (sym b.is) (stands_holds hs ds ms ps clocked cs)).at_rest;
             noting_law_here = law_holds hs es ms qs clocked ks;
             noting_law_next = law_then hs es ms qs clocked ks k;

@@ -1,4 +1,4 @@
--- What holds at each point of a use: the law; at rest, the ports of the book's devices; and what a contender still in has carried.
+-- At each point of a use: the law, what the ports are at rest, and what a contender still in has carried so far.
 use Rattle.std.proofs.Common.{◌≡◌, ℕ, ◌⊎◌, List, [], ◌∷◌, ◌++◌, length, Some, None, Option, refl, ap, subst, inl, inr}
 use Rattle.transfer.specs.Transfer.{TransferModel}
 use Rattle.device.specs.Device.{Behaviour}
@@ -49,7 +49,8 @@ module _ (hs : List HostBehaviour) (ds : List Behaviour) where
   -- so far the turn is the transfer carried alone
   pub record SoFarAlone (x : Use hs ds) (t : TransferModel) : Type 0 where
     pub slots_gone : ℕ
-    pub letters : x.watch.spelled ≡ string transfers (ports_side ds) slots_gone (new_cursor t) (opened_ports ds x.book.devices)
+    pub letters : x.watch.spelled ≡
+        string transfers (ports_side ds) slots_gone (new_cursor t) (opened_ports ds x.book.devices)
     pub many : length x.watch.spelled ≡ slots_gone
     pub ports : bank_map unheld ds x.bus.ports ≡
         last transfers (ports_side ds) slots_gone (new_cursor t) (opened_ports ds x.book.devices)
@@ -88,7 +89,8 @@ module _ (hs : List HostBehaviour) (ds : List Behaviour) (ms : Bank HostedMaster
   abbrev pub after_calls : List (Call hs ds) → Use hs ds
   after_calls cs = use_after hs ds (new_use hs ds ms ps) cs
 
-  pub then_one : (cs : List (Call hs ds)) (c : Call hs ds) → after_calls (cs ++ (c ∷ [])) ≡ use_after_call hs ds (after_calls cs) c
+  pub then_one : (cs : List (Call hs ds)) (c : Call hs ds) →
+      after_calls (cs ++ (c ∷ [])) ≡ use_after_call hs ds (after_calls cs) c
   then_one cs c = one_more hs ds (new_use hs ds ms ps) cs c
 
   module _ (clocked : ClocksInRange hs ms) (cs : List (Call hs ds)) where

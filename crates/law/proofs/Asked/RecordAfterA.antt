@@ -1,4 +1,4 @@
--- After an A for the call of a leg or a byte written in it the record of some device ends with the leg's select and its bytes.
+-- After an A for the call of a leg or a byte written in it some device has noted the leg's select and its bytes so far.
 use Rattle.std.proofs.Common.{◌≡◌, ℕ, suc, ◌≤◌, Bool, true, false, List, [], ◌∷◌, ◌++◌, map, take as first}
 use Rattle.std.proofs.Common.{append_assoc, append-nil, Some, sym, refl, ap, ◌∙◌, subst, inl, inr}
 use Rattle.std.specs.Prelude.{slice_index_or}
@@ -34,7 +34,8 @@ module _ (a : ℕ) (r : Direction) where
   Took b ys p = p.inside ≡ true →
       (answers_to p.address a ≡ true) × EndsWith p.meaning.steps (select r true ∷ map (λ x. put x true) ys)
 
-  called_took : (b : Behaviour) (d : AddressedDevice (noting_steps b)) → Took b [] (device_after_call (noting_steps b) a r d)
+  called_took : (b : Behaviour) (d : AddressedDevice (noting_steps b)) →
+      Took b [] (device_after_call (noting_steps b) a r d)
   called_took b d = let ss = d.meaning.steps in
       cond_both (answers_to d.address a)
       (device_after_select (noting_steps b) d ((noting_steps b).select d.meaning r))
@@ -91,17 +92,24 @@ read_took n m a b p i h =
       cond_both p.inside
           (record { address = p.address; meaning = ((noting_steps b).take p.meaning).1; yes = p.yes; inside = true }) p
           (λ w. Acknowledged (reads n) m w.meaning.steps)
-          (λ e. (q.0, (z.1.0, ap (λ l. l ++ (take q.0 ∷ [])) z.1.1 ∙ append_assoc z.1.0 (select Read true ∷ []) (take q.0 ∷ []))))
+          (λ e. (
+            q.0,
+            (
+              z.1.0,
+              ap (λ l. l ++ (take q.0 ∷ [])) z.1.1 ∙ append_assoc z.1.0 (select Read true ∷ []) (take q.0 ∷ []),
+            ),
+          ))
           (λ e. let y : true ≡ false = sym i ∙ e in cc),
     )
 
 -- of some port the steps noted are those of a device that acknowledged this call and this many bytes
-abbrev pub Reached : (ds : List Behaviour) → LegModel → ℕ → NotingPorts ds → Type 0
+abbrev Reached : (ds : List Behaviour) → LegModel → ℕ → NotingPorts ds → Type 0
 Reached ds g m s = AtSomePort (port_addresses (all_noting_steps ds) s) (noted_by ds s) g.address (Acknowledged g.body m)
 
 module _ (a m : ℕ) where
   writing : (xs : List ℕ) (ds : List Behaviour) (w : NotingInLeg ds) → let es = all_noting_steps ds in
-      AllTook a Write (first m xs) ds w → any_in es w ≡ true → Reached ds (write_leg a xs) m (bank_map (writing_at 0 0) es w)
+      AllTook a Write (first m xs) ds w → any_in es w ≡ true →
+      Reached ds (write_leg a xs) m (bank_map (writing_at 0 0) es w)
   writing xs [] w h k = cc
   writing xs (b ∷ ds) w h k = elim (or_cases w.0.inside (any_in (all_noting_steps ds) w.1) k) [
     | inl i ↦ inl (h.0 i)
@@ -123,17 +131,20 @@ module _ (a m : ℕ) where
   in_leg_reached (writes xs) ds d h =
       let es = all_noting_steps ds in
       let e = called_for es a Write d in
-      writing xs ds (devices_after_puts es (first m xs) e) (all_having a Write (first m xs) [] ds e (all_called a Write ds d)) h
+      writing xs ds (devices_after_puts es (first m xs) e)
+      (all_having a Write (first m xs) [] ds e (all_called a Write ds d)) h
   in_leg_reached (reads n) ds d h = reading n ds (called_for (all_noting_steps ds) a Read d) (all_called a Read ds d) h
 
 -- once the slots up to this acknowledge are gone, and its own
 pub played_reached : (ds : List Behaviour) (t : TransferModel) (d : NotingDevices ds) (i k m : ℕ) (g : LegModel) →
     let es = all_noting_steps ds in
     IsLegal t → leg_of t k ≡ Some g → m ≤ body_writes g.body →
-    slice_index_or (string transfers (ports_side es) i (new_cursor t) (opened_ports es d)) (acknowledge_at t k m) one ≡ low →
-    Reached ds g m (last transfers (ports_side es) (suc (acknowledge_at t k m)) (new_cursor t) (opened_ports es d))
+    let s = opened_ports es d in
+    slice_index_or (string transfers (ports_side es) i (new_cursor t) s) (acknowledge_at t k m) one ≡ low →
+    Reached ds g m (last transfers (ports_side es) (suc (acknowledge_at t k m)) (new_cursor t) s)
 played_reached ds t d i k m g l e h q =
     let es = all_noting_steps ds in
     let j = acknowledge_at t k m in
-    let p : HasAnswered es j (new_cursor t) (opened_ports es d) g m = answered es t d k m g l e h (low_carried es t d i j l q) in
+    let p : HasAnswered es j (new_cursor t) (opened_ports es d) g m =
+    answered es t d k m g l e h (low_carried es t d i j l q) in
     subst (Reached ds g m) (sym p.then) (in_leg_reached g.address m g.body ds p.before p.some)

@@ -28,7 +28,7 @@ use Rattle.law.proofs.Alone.ByteLawsHold.{took, mask}
 use Rattle.law.proofs.Asked.DeviceMaps.{device_addresses}
 use Rattle.law.proofs.Asked.NotesAreAsks.{NotingDevices, NotingInLeg}
 use Rattle.law.proofs.Asked.SomebodyInAfterA.{settled}
-use Rattle.law.proofs.Asked.NotesOfLeg.{one_call, Since, calls_since, gave_if, Together, together_still, gives_in}
+use Rattle.law.proofs.Asked.NotesOfLeg.{took_keeps, one_call, Since, calls_since, gave_if, Together, together_still, gives_in}
 use Rattle.law.proofs.Asked.NotesOfLeg.{After, AfterRead, leg_noted, read_leg_noted}
 use Rattle.law.proofs.Alone.PortsWithinByte.{joined_byte, called_for, put_to_all}
 
@@ -69,7 +69,8 @@ first_hands : (n : ℕ) (ds : List Behaviour) (e : NotingInLeg ds) →
 first_hands n [] e = refl
 first_hands n (b ∷ ds) e =
     let xs = bank_list byte_given_by (all_noting_steps ds) e.1 in
-    first_one b e.0.meaning.meaning e.0.inside n (joint_byte xs) (hands (suc n) ds e.1) (joined_byte xs) (first_hands n ds e.1)
+    first_one b e.0.meaning.meaning e.0.inside n (joint_byte xs) (hands (suc n) ds e.1)
+    (joined_byte xs) (first_hands n ds e.1)
 
 later_hands : (n k : ℕ) (ds : List Behaviour) (e : NotingInLeg ds) →
     all_at k (hands n ds (bank_map device_after_take (all_noting_steps ds) e)) ≡ all_at (suc k) (hands (suc n) ds e)
@@ -81,7 +82,8 @@ read_gives : (n y : ℕ) (ds : List Behaviour) (e : NotingInLeg ds) → y < n �
 read_gives zero y ds e h = absurd (omega arith)
 read_gives (suc n) zero ds e h = first_hands n ds e
 read_gives (suc n) (suc y) ds e h =
-    read_gives n y ds (bank_map device_after_take (all_noting_steps ds) e) (omega arith) ∙ ap joint_byte (later_hands n y ds e)
+    read_gives n y ds (bank_map device_after_take (all_noting_steps ds) e) (omega arith)
+    ∙ ap joint_byte (later_hands n y ds e)
 
 -- who is in hands a byte over for each
 gives_one : (b : Behaviour) (t : Bool) (n y : ℕ) (m : b.Meaning) (xs : List ℕ) → t ≡ true → y < n →
@@ -137,8 +139,8 @@ no_calls_more (b ∷ ds) d = (([], sym (append-nil (steps_of_calls d.0.meaning.s
 leg_more : (a : ℕ) (ds : List Behaviour) (d e : NotingDevices ds) →
     Together AddressedDevice (After a) ds d e → Together AddressedDevice More ds d e
 leg_more a ds d e h = together_still AddressedDevice (After a) More
-    (λ b d p q. let c = calls_since (answers_to d.address a) q.0 d.meaning.steps p.meaning.steps q.1.since in (c.call, c.last))
-    ds d e h
+    (λ b d p q. let c = calls_since (answers_to d.address a) q.0 d.meaning.steps p.meaning.steps q.1.since in
+    (c.call, c.last)) ds d e h
 
 -- how often a port with this address was called in an earlier leg at f
 abbrev called_in : ℕ → ℕ → ℕ
@@ -146,18 +148,22 @@ called_in f o = cond (answers_to o f) 1 0
 
 module _ (a n : ℕ) where
   -- what was handed over in leg 0, and in leg 1
-  handed_first : (ds : List Behaviour) (d : Bank AddressedDevice ds) (e z : NotingDevices ds) → let new = all_nothing_noted ds d in
+  handed_first : (ds : List Behaviour) (d : Bank AddressedDevice ds) (e z : NotingDevices ds) →
+      let new = all_nothing_noted ds d in
       Together AddressedDevice (AfterRead a n) ds new e → Together AddressedDevice More ds e z →
-      handed_over a (λ o. 0) (device_addresses ds d) (all_steps ds z) ≡ hands n ds (called_for (all_noting_steps ds) a Read new)
+      handed_over a (λ o. 0) (device_addresses ds d) (all_steps ds z) ≡
+      hands n ds (called_for (all_noting_steps ds) a Read new)
   handed_first [] d e z h k = refl
-  handed_first (b ∷ ds) d e z h k = ap₂ ◌∷◌
-      (one_handed (answers_to d.0.address a) (gives_in a n b (all_nothing_noted (b ∷ ds) d).0) [] e.0.meaning.steps z.0.meaning.steps
-      0 k.0.0 h.0.since k.0.1 (λ v. refl))
+  handed_first (b ∷ ds) d e z h k =
+      let gives = gives_in a n b (all_nothing_noted (b ∷ ds) d).0 in
+      ap₂ ◌∷◌
+      (one_handed (answers_to d.0.address a) gives [] e.0.meaning.steps z.0.meaning.steps 0 k.0.0 h.0.since k.0.1 (λ v. refl))
       (handed_first ds d.1 e.1 z.1 h.1 k.1)
 
   handed_second : (f : ℕ) (ds : List Behaviour) (d : Bank AddressedDevice ds) (e z : NotingDevices ds) →
       Together AddressedDevice (After f) ds (all_nothing_noted ds d) e → Together AddressedDevice (AfterRead a n) ds e z →
-      handed_over a (called_in f) (device_addresses ds d) (all_steps ds z) ≡ hands n ds (called_for (all_noting_steps ds) a Read e)
+      handed_over a (called_in f) (device_addresses ds d) (all_steps ds z) ≡
+      hands n ds (called_for (all_noting_steps ds) a Read e)
   handed_second f [] d e z h k = refl
   handed_second f (b ∷ ds) d e z h k =
       let o = d.0.address in
@@ -183,16 +189,12 @@ module _ (es : List Behaviour) where
   read_length zero e = refl
   read_length (suc n) e = omega (arith, read_length n (bank_map device_after_take es e))
 
-  took_bytes : (x : ℕ) (r s : LegResult es) (t : Bool) → r.bytes ≡ [] → s.bytes ≡ [] → (took es x r s t).bytes ≡ []
-  took_bytes x r s true e f = e
-  took_bytes x r s false e f = f
-
   write_bytes : (l : ℕ) (xs : List ℕ) (n : ℕ) (e : Bank DeviceInLeg es) → (write_result es l xs n e).bytes ≡ []
   write_bytes l [] n e = refl
   write_bytes l (x ∷ xs) n e =
       let w = put_to_all es x e in
       let s = leg_end es (Refused (record { leg = l; byte = n })) w in
-      took_bytes x (write_result es l xs (suc n) w) s (any_in es w) (write_bytes l xs (suc n) w) refl
+      took_keeps es (λ ys d. ys ≡ []) x (write_result es l xs (suc n) w) s (any_in es w) (write_bytes l xs (suc n) w) refl
 
   body_length : (l : ℕ) (g : BodyModel) (e : Bank DeviceInLeg es) → length (body_result es l g e).bytes ≡ body_reads g
   body_length l (writes xs) e = ap length (write_bytes l xs 0 e)
@@ -213,7 +215,8 @@ module _ (es : List Behaviour) where
       e = called_for es g.address (body_direction g.body) d
 
       r : Bool → LegResult es
-      r t = took es (call_byte g.address g.body) (body_result es l g.body e) (leg_end es (NoAnswer (record { leg = l })) e) t
+      r t = took es (call_byte g.address g.body) (body_result es l g.body e)
+          (leg_end es (NoAnswer (record { leg = l })) e) t
 
       go : (t : Bool) → any_in es e ≡ t → (r t).kind ≡ Done → Answered l g d (r t)
       go true i k = (refl, refl, i)
@@ -230,6 +233,7 @@ module _ (ds : List Behaviour) (d : Bank AddressedDevice ds) (a n y : ℕ) (h : 
   abbrev by : (ℕ → ℕ) → NotingDevices ds → List ℕ
   by c z = all_at y (handed_over a c (device_addresses ds d) (all_steps ds z))
 
+  -- a byte of a read in leg 0, whatever is read behind it
   in_first : (more : List ℕ) (z : NotingDevices ds) → let r = leg_result rs 0 (read_leg a n) new in
       r.kind ≡ Done → Together AddressedDevice More ds (settled rs r) z →
       JoinedFrom (by (λ o. 0) z) (slice_index_or (r.bytes ++ more) y 0)
@@ -240,11 +244,13 @@ module _ (ds : List Behaviour) (d : Bank AddressedDevice ds) (a n y : ℕ) (h : 
       let s = subst (λ w. Together AddressedDevice (AfterRead a n) ds new (bank_map device_after_leg rs w)) (sym q.1)
       (read_leg_noted a ds n new) in
       let bytes : slice_index_or (read_result rs n e).bytes y 0 ≡ slice_index_or (r.bytes ++ more) y 0 =
-      sym (get_or-append r.bytes more 0 y (omega (arith, ap length q.0, read_length rs n e)) ∙ ap (λ l. slice_index_or l y 0) q.0) in
+      sym (get_or-append r.bytes more 0 y (omega (arith, ap length q.0, read_length rs n e))
+      ∙ ap (λ l. slice_index_or l y 0) q.0) in
       joined_as (all_at y (hands n ds e)) (by (λ o. 0) z) (slice_index_or (read_result rs n e).bytes y 0)
       (slice_index_or (r.bytes ++ more) y 0)
       (ap (all_at y) (sym (handed_first a n ds d (settled rs r) z s m))) bytes (read_hands n y ds e h q.2)
 
+  -- a byte of a read in leg 1, behind leg w
   in_second : (w : LegModel) →
       let r = leg_result rs 0 w new in
       let q = leg_result rs 1 (read_leg a n) (settled rs r) in
@@ -260,11 +266,12 @@ module _ (ds : List Behaviour) (d : Bank AddressedDevice ds) (a n y : ℕ) (h : 
       (read_leg_noted a ds n s) in
       let long : length r.bytes ≡ body_reads w.body = ap length (answered rs 0 w new k).0
       ∙ body_length rs 0 w.body (called_for rs w.address (body_direction w.body) new) in
-      let bytes : slice_index_or (read_result rs n e).bytes y 0 ≡ slice_index_or (r.bytes ++ q.bytes) (body_reads w.body + y) 0 =
-      sym (ap (λ m. slice_index_or (r.bytes ++ q.bytes) (m + y) 0) (sym long)
+      let all = r.bytes ++ q.bytes in
+      let bytes : slice_index_or (read_result rs n e).bytes y 0 ≡ slice_index_or all (body_reads w.body + y) 0 =
+      sym (ap (λ m. slice_index_or all (m + y) 0) (sym long)
       ∙ (get_or-append-add r.bytes q.bytes y 0 ∙ ap (λ l. slice_index_or l y 0) u.0)) in
-      joined_as (all_at y (hands n ds e)) (by (called_in w.address) (settled rs q)) (slice_index_or (read_result rs n e).bytes y 0)
-      (slice_index_or (r.bytes ++ q.bytes) (body_reads w.body + y) 0)
+      joined_as (all_at y (hands n ds e)) (by (called_in w.address) (settled rs q))
+      (slice_index_or (read_result rs n e).bytes y 0) (slice_index_or all (body_reads w.body + y) 0)
       (ap (all_at y) (sym (handed_second a n w.address ds d s (settled rs q) (leg_noted w.address ds 0 w.body new) f)))
       bytes (read_hands n y ds e h u.2)
 
@@ -308,7 +315,8 @@ module _ (ds : List Behaviour) (d : Bank AddressedDevice ds) (a n y : ℕ) (h : 
   result t = transfer_result rs t new
 
   pub reported_alone : (t : TransferModel) (k : ℕ) → (result t).outcome.kind ≡ Done → leg_of t k ≡ Some (read_leg a n) →
-      JoinedFrom (by (called_before t k) (result t).devices) (slice_index_or (result t).outcome.bytes (read_before t k + y) 0)
+      JoinedFrom (by (called_before t k) (result t).devices)
+      (slice_index_or (result t).outcome.bytes (read_before t k + y) 0)
   reported_alone t zero g e =
       let z : t.first ≡ read_leg a n = cc in
       let p : 0 + y ≡ y = omega arith in
@@ -319,6 +327,7 @@ module _ (ds : List Behaviour) (d : Bank AddressedDevice ds) (a n y : ℕ) (h : 
       (first_told t.second (leg_result rs 0 (read_leg a n) new).kind refl f)) g
   reported_alone t (suc zero) g e =
       subst (λ o. let c = result (record t { second = o }) in c.outcome.kind ≡ Done →
-      JoinedFrom (by (called_in t.first.address) c.devices) (slice_index_or c.outcome.bytes (body_reads t.first.body + y) 0))
+      JoinedFrom (by (called_in t.first.address) c.devices)
+      (slice_index_or c.outcome.bytes (body_reads t.first.body + y) 0))
       (sym e) (λ f. second_told t.first (leg_result rs 0 t.first new).kind refl f) g
   reported_alone t (suc (suc k)) g e = cc

@@ -1,4 +1,4 @@
--- After an A for the call of a leg or a byte written in it somebody is in, and the ports are those of devices after these bytes.
+-- After an A for the call of a leg or a byte written in it somebody is in, and the ports are the leg's after that byte.
 use Rattle.std.proofs.Common.{◌≡◌, ℕ, zero, suc, ◌+◌, ◌*◌, ◌<◌, ◌≤◌, Bool, true, false, cond, List, [], ◌∷◌, ◌++◌}
 use Rattle.std.proofs.Common.{length, take, map, Some, None, Option, sym, refl, ap, ◌∙◌, subst, arith}
 use Rattle.std.specs.Prelude.{slice_index_or}
@@ -42,6 +42,7 @@ module _ (W : Script) (D : Side) where
   play_on [] cs s = refl
   play_on (b ∷ bs) cs s = play_on bs cs (D.bit s b)
 
+  -- where a script carries levels to these ports, they play to them
   plays_to : (bs : List Bool) (c : W.Cursor) (s u : D.S) → Carries W D c s bs (λ q v. v ≡ u) → play s bs ≡ u
   plays_to [] c s u h = h
   plays_to (b ∷ bs) c s u h = plays_to bs (W.next c b) (D.bit s b) u h.1
@@ -66,7 +67,8 @@ module _ (W : Script) (D : Side) where
   last_past m (suc n) (b ∷ bs) c s u e h = one_slot n c s (D.bit s b) b (level_slot D (W.symbol c) s b h.0)
       ∙ last_past m n bs (W.next c b) (D.bit s b) u (omega arith) h.1
 
-  longer_either : (v : Bool) (j : ℕ) (ts us : List Letter) → (slice_index_or ts j one ≡ low → slice_index_or us j one ≡ low) →
+  longer_either : (v : Bool) (j : ℕ) (ts us : List Letter) →
+      (slice_index_or ts j one ≡ low → slice_index_or us j one ≡ low) →
       slice_index_or (cond v [] ts) j one ≡ low → slice_index_or (cond v [] us) j one ≡ low
   longer_either true j ts us g e = e
   longer_either false j ts us g e = g e
@@ -81,14 +83,17 @@ module _ (W : Script) (D : Side) where
   string_longer (suc k) (suc n) (suc j) c s h e =
       let u = after D (W.symbol c) s in
       let q = W.next c (heard D (W.symbol c) s) in
-      longer_either (ends_with (W.symbol c)) j (string W D k q u) (string W D n q u) (λ z. string_longer k n j q u (omega arith) z) e
+      longer_either (ends_with (W.symbol c)) j (string W D k q u) (string W D n q u)
+      (λ z. string_longer k n j q u (omega arith) z) e
 
 -- letters and levels
+-- a level 0 stands within the levels
 low_there : (ls : List Bool) (i : ℕ) → slice_index_or ls i true ≡ false → i < length ls
 low_there [] i e = cc
 low_there (v ∷ ls) zero e = omega arith
 low_there (v ∷ ls) (suc i) e = let z = low_there ls i e in omega arith
 
+-- a letter 0 within the levels is a level 0, and so is one before the stop
 low_level : (ls : List Bool) (us : List Letter) (i : ℕ) → i < length ls →
     slice_index_or (map bit_letter ls ++ us) i one ≡ low → slice_index_or ls i true ≡ false
 low_level [] us i h e = absurd (omega arith)
@@ -104,6 +109,7 @@ low_before_stop (true ∷ ls) zero e = cc
 low_before_stop (false ∷ ls) zero e = refl
 low_before_stop (v ∷ ls) (suc i) e = low_before_stop ls i e
 
+-- the letters behind a repeated start
 past_restart : (ls : List Bool) (us : List Letter) (i n : ℕ) → n ≡ suc (length ls + i) →
     slice_index_or (map bit_letter ls ++ (restart ∷ us)) n one ≡ slice_index_or us i one
 past_restart [] us i zero h = absurd (omega arith)
@@ -205,8 +211,8 @@ module _ (ds : List Behaviour) where
       let e = called_for ds a (body_direction b) d in
       let u = answers (body_direction b) e in
       let z : plays (starts d) (low_bits 8 x []) ≡ u =
-          plays_to transfers E (low_bits 8 x []) (leg_begun (leg a b) None 0 []) (starts d) u
-          (address_plays ds None (λ c w. w ≡ u) (leg a b) x (notes 0 [] 0 Done) d [] (calls a b h) refl) in
+      plays_to transfers E (low_bits 8 x []) (leg_begun (leg a b) None 0 []) (starts d) u
+      (address_plays ds None (λ c w. w ≡ u) (leg a b) x (notes 0 [] 0 Done) d [] (calls a b h) refl) in
       play_on transfers E (low_bits 8 x []) (false ∷ []) (starts d) ∙ (ap (λ w. E.bit w false) z ∙ gets_ready ds b e)
 
   -- the levels after the acknowledge of a byte that somebody took
@@ -242,8 +248,7 @@ module _ (ds : List Behaviour) where
       let s = leg_end ds (Refused (record { leg = l; byte = n })) w in
       let ls = (took ds x r s t).levels in
       let p : slice_index_or ls (past_byte (9 * y + 8)) true ≡ false = rw (nine y) at q in
-      let z = put_played l xs (suc n) w y (λ j. o (suc j)) (omega arith) (later ds x r s t (9 * y + 8) refl p) in
-      (
+      let z = put_played l xs (suc n) w y (λ j. o (suc j)) (omega arith) (later ds x r s t (9 * y + 8) refl p) in (
         z.0,
         ap (λ m. plays (writes_on e) (take (suc m) ls)) (nine y)
             ∙ after_bits x (suc (9 * y + 8)) r s t (writes_on e) (writes_on w)
@@ -263,7 +268,7 @@ module _ (ds : List Behaviour) where
       (t, after_bits x 0 r s (any_in ds e) (starts d) (ready ds b e) (ready ds b e) t (leg_called a b d h) refl)
 
   -- the devices in a leg after its first m bytes
-  abbrev pub having_first : BodyModel → ℕ → Bank DeviceInLeg ds → Bank DeviceInLeg ds
+  abbrev having_first : BodyModel → ℕ → Bank DeviceInLeg ds → Bank DeviceInLeg ds
   having_first (writes xs) m e = devices_after_puts ds (take m xs) e
   having_first (reads n) m e = e
 
@@ -283,8 +288,7 @@ module _ (ds : List Behaviour) where
       let s = leg_end ds (NoAnswer (record { leg = l })) e in
       let ls = (took ds (a * 2) r s t).levels in
       let p : slice_index_or ls (past_byte (9 * y + 8)) true ≡ false = rw (nine y) at q in
-      let z = put_played l xs 0 e y o.0 (omega arith) (later ds (a * 2) r s t (9 * y + 8) refl p) in
-      (
+      let z = put_played l xs 0 e y o.0 (omega arith) (later ds (a * 2) r s t (9 * y + 8) refl p) in (
         z.0,
         ap (λ m. plays (starts d) (take (suc m) ls)) (nine y)
             ∙ after_bits (a * 2) (suc (9 * y + 8)) r s t (starts d) (writes_on e)
@@ -297,15 +301,16 @@ module _ (ds : List Behaviour) where
   abbrev up_to : ℕ → CursorModel → Bank PortModel ds → Bank PortModel ds
   up_to m c s = last transfers E m c s
 
-  -- after j slots and the acknowledge the ports are those of devices that were called for leg g and given its first m bytes,
-  -- somebody still in
+  -- after j slots and the acknowledge the ports are those of devices that were called for leg g and given its first m
+  -- bytes, somebody still in
   pub record HasAnswered (j : ℕ) (c : CursorModel) (s : Bank PortModel ds) (g : LegModel) (m : ℕ) : Type 0 where
     pub before : Bank AddressedDevice ds
     pub some : any_in ds (in_leg_after g m before) ≡ true
     pub then : up_to (suc j) c s ≡ ready ds g.body (in_leg_after g m before)
 
   -- some slots of a leg
-  slots_of_leg : (g : LegModel) (l : ℕ) (o : Option LegModel) (ys : List ℕ) (d : Bank AddressedDevice ds) (m : ℕ) → IsLegalLeg g →
+  slots_of_leg : (g : LegModel) (l : ℕ) (o : Option LegModel) (ys : List ℕ) (d : Bank AddressedDevice ds) (m : ℕ) →
+      IsLegalLeg g →
       let ls = (leg_result ds l g d).levels in
       m ≤ length ls → up_to m (leg_begun g o l ys) (starts d) ≡ plays (starts d) (take m ls)
   slots_of_leg g l o ys d m h n =
@@ -357,10 +362,11 @@ module _ (ds : List Behaviour) where
       (leg_plays ds (Some f) (λ c u. up_to (suc m) c u ≡ v) g 0 [] d h
       (λ u q. subst (λ z. up_to (suc m) (closing z (Some f) (notes 0 r.bytes 0 z)) u ≡ v) (sym k) (ap (up_to m c) q.start)))
 
-  -- leg 1
+  -- where the acknowledge stands in leg 1 behind leg g
   abbrev second_place : LegModel → ℕ → ℕ
   second_place g m = 9 * suc (body_size g.body) + suc (9 * m + 8)
 
+  -- a leg that is not done has no letter 0 so late
   too_late : (g : LegModel) (d : Bank AddressedDevice ds) (m : ℕ) → let r = leg_result ds 0 g d in
       slice_index_or (map bit_letter r.levels ++ (stop ∷ [])) (second_place g m) one ≡ low → ⊥
   too_late g d m q =
@@ -369,6 +375,7 @@ module _ (ds : List Behaviour) where
       let u = low_there r.levels (second_place g m) (low_before_stop r.levels (second_place g m) q) in
       omega arith
 
+  -- leg 1
   second_answered : (g i : LegModel) (d : Bank AddressedDevice ds) (m : ℕ) →
       IsLegalLeg g → IsLegalLeg i → m ≤ body_writes i.body →
       let r = leg_result ds 0 g d in
@@ -384,8 +391,12 @@ module _ (ds : List Behaviour) where
       let z = (leg_long 0 g d).all e in
       let rest = map bit_letter s.levels ++ (stop ∷ []) in
       let u = leg_answered 1 i None r.bytes (settled r) m f h
-          (low_before_stop s.levels (9 * m + 8) (sym (past_restart r.levels rest (9 * m + 8) n (omega arith)) ∙ q)) in
-      record { before = u.before; some = u.some; then = past_leg g i d (suc (9 * m + 8)) (suc n) j e (omega arith) ∙ u.then }
+      (low_before_stop s.levels (9 * m + 8) (sym (past_restart r.levels rest (9 * m + 8) n (omega arith)) ∙ q)) in
+      record {
+        before = u.before;
+        some = u.some;
+        then = past_leg g i d (suc (9 * m + 8)) (suc n) j e (omega arith) ∙ u.then;
+      }
 
   transfer_answered : (t : TransferModel) (d : Bank AddressedDevice ds) (k m : ℕ) (g : LegModel) →
       IsLegal t → leg_of t k ≡ Some g → m ≤ body_writes g.body →

@@ -67,6 +67,7 @@ module _ (D : Side) where
     go false = refl
 
 module _ (W : Script) (D : Side) where
+  -- where both end alike and go on alike
   ends_both : (v w : Bool) (ts us : List Letter) (p q u r : D.S) → v ≡ w → p ≡ q →
       cond v [] ts ≡ cond w [] us → (ts ≡ us → u ≡ r) → cond v p u ≡ cond w q r
   ends_both true true ts us p q u r e f h k = f
@@ -164,7 +165,8 @@ module _ (hs : List HostBehaviour) (ds : List Behaviour) where
     legal = legal_at (contenders hs b.entries) i t (contenders_legal hs b.entries) c
 
     contest : slice_index_or results i None ≡ Some own
-    contest = ap (λ cs. slice_index_or cs i None) (contests_of hs ds b) ∙ carried_at ds b.devices (contenders hs b.entries) i t c
+    contest = ap (λ cs. slice_index_or cs i None) (contests_of hs ds b)
+        ∙ carried_at ds b.devices (contenders hs b.entries) i t c
 
     -- only a stop that closes a turn tells
     stop_turn : (o : OutcomeModel) (v : Turn) → slice_index_or (told_at_stop hs ds b v) i None ≡ Some o → v ≡ opened
@@ -207,4 +209,5 @@ module _ (hs : List HostBehaviour) (ds : List Behaviour) where
           let u = lead_of ds b.devices (lead ds b.devices l) w.best (lead_legal ds b.devices l k) leads in
           devices_then w.best e z.0 z.1 w.leads
           ∙ (ap (λ c. c.devices) u.2
-          ∙ sym (same_devices ds b.devices t u.0 legal u.1 (ap (λ c. same_string own.letters c.letters) (sym u.2) ∙ w.same)))
+          ∙ sym (same_devices ds b.devices t u.0 legal u.1
+          (ap (λ c. same_string own.letters c.letters) (sym u.2) ∙ w.same)))

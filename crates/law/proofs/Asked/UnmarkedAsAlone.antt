@@ -42,12 +42,13 @@ module _ (W : Script) (D : Side) where
   abbrev AsAlone : ℕ → List (Option W.Cursor) → D.S → W.Cursor → Type 0
   AsAlone k l s p = (last W D k p s ≡ (after_slots k l s).side) × (string W D k p s ≡ spelled W D l s k)
 
-  one_more : (k : ℕ) (l : List (Option W.Cursor)) (s : D.S) (p : W.Cursor) → W.symbol p ≡ lead W l → ends (lead W l) ≡ false →
+  -- one slot more, in front
+  one_more : (k : ℕ) (l : List (Option W.Cursor)) (s : D.S) (p : W.Cursor) →
+      W.symbol p ≡ lead W l → ends (lead W l) ≡ false →
       AsAlone k (next_live W D l s) (next_side W D l s) (W.next p (heard D (lead W l) s)) → AsAlone (suc k) l s p
   one_more k l s p g d h =
       let x = lead W l in
-      let q = W.next p (heard D x s) in
-      (
+      let q = W.next p (heard D x s) in (
         (let w : last W D (suc k) p s ≡ last W D k q (after D x s) = rw (g, d) in
             w ∙ h.0 ∙ sym (ap (λ x. x.side) (slots_next W D k l s d))),
         (let w : string W D (suc k) p s ≡ letter D x s ∷ string W D k q (after D x s) = rw (g, d) in
@@ -89,7 +90,7 @@ module _ (W : Script) (D : Side) where
           two : (v : Bool) → eqb (rank (lead W l)) (rank (W.symbol p)) ≡ v → AsAlone (suc k) l s p
           two true f =
               let g : W.symbol p ≡ lead W l = rank_inj (W.symbol p) (lead W l)
-                  (sym (eqb-true (rank (lead W l)) (rank (W.symbol p)) f)) in
+              (sym (eqb-true (rank (lead W l)) (rank (W.symbol p)) f)) in
               one_more k l s p g d
               (ih (W.next p bit) (kept true f) (sym (ap (λ x. x.over) nx) ∙ o) (sym (ap (λ x. at x.live i) nx) ∙ b))
           two false f =
@@ -123,7 +124,7 @@ module _ (W : Script) where
   one_live (o ∷ l) (out c ∷ cs) (suc j) p h a = one_live l cs j p h a
   one_live (o ∷ l) (live c r ∷ cs) (suc j) p h a = one_live l cs j p h.1 a
 
-  abbrev pub NoRival : Tasks W → ℕ → Type 0
+  abbrev NoRival : Tasks W → ℕ → Type 0
   NoRival l i = (j : ℕ) (q : W.Task) → at l j ≡ Some q → j ≡ i
 
   lone_at : (l : Tasks W) (cs : List (Cell W)) (i : ℕ) → Within W l cs → alive W cs ≡ true → NoRival l i →
@@ -175,7 +176,7 @@ module _ (W : Script) (D : Side) (left : W.Cursor → ℕ) (Alike : W.Cursor →
   so_far u s0 w l i x k n r ps s p e q here c b d =
       let s1 = D.begin s0 in
       let a = as_alone W D k n (begins W l) s1 i (W.begin x) p e (begun_at W l i x here)
-          (ap (λ z. z.over) q.runs) (ap (λ z. at z.live i) q.runs ∙ c) in
+      (ap (λ z. z.over) q.runs) (ap (λ z. at z.live i) q.runs ∙ c) in
       inr (record {
         slots_gone = k;
         letters = b ∙ sym a.1;
