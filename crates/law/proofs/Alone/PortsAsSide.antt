@@ -74,7 +74,3 @@ side_follows ds s v a = follows ds s v.event v.bit v.free_and_high a
 pub side_pulls : (ds : List Behaviour) (s : Bank PortModel ds) → (all_pulls (bank_list port_pulls ds s)).sda ≡ (ports_side ds).pulls (bank_map unheld ds s)
 side_pulls [] s = refl
 side_pulls (b ∷ ds) s = grind (arith, side_pulls ds)
-
--- where a port is, and what its device means
-abbrev pub placed : (b : Behaviour) → PortModel b → AddressedDevice b
-placed b p = record { address = p.address; meaning = p.meaning }

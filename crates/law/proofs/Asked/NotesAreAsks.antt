@@ -51,7 +51,7 @@ longer_cancel (x ∷ xs) (y ∷ ys) (z ∷ zs) h k e =
 
 module _ (b : Behaviour) where
   -- without what is noted
-  abbrev pub forget : Morphism (noting_steps b) b
+  abbrev forget : Morphism (noting_steps b) b
   forget = record {
     to = λ m. m.meaning;
     selects = λ m r. refl;
@@ -61,14 +61,14 @@ module _ (b : Behaviour) where
   }
 
   -- with these steps noted before
-  abbrev pub noted_before : List Step → StepsNoted b → StepsNoted b
+  abbrev noted_before : List Step → StepsNoted b → StepsNoted b
   noted_before ss m = record { meaning = m.meaning; steps = ss ++ m.steps }
 
   pub noting_before : (ss : List Step) (m : StepsNoted b) (s : Step) (n : b.Meaning) →
       with_step b (noted_before ss m) s n ≡ noted_before ss (with_step b m s n)
   noting_before ss m s n = ap (λ l. record { meaning = n; steps = l }) (append_assoc ss m.steps (s ∷ []))
 
-  abbrev pub put_before : List Step → Morphism (noting_steps b) (noting_steps b)
+  abbrev put_before : List Step → Morphism (noting_steps b) (noting_steps b)
   put_before ss = record {
     to = noted_before ss;
     selects = λ m r. let a = b.select m.meaning r in ap (λ n. (a.0, n)) (noting_before ss m (select r a.0) a.1);
@@ -179,7 +179,7 @@ module _ (b : Behaviour) where
       either_notes (ltb y.bits 8) p _ _ [] (take (b.take p.meaning.meaning).0 ∷ []) (nothing_noted p) refl
 
   -- what a device notes is what its port asks
-  pub step_noted : (p : PortModel (noting_steps b)) (e : Event) (o : Option Bool) (n : ℕ) →
+  step_noted : (p : PortModel (noting_steps b)) (e : Event) (o : Option Bool) (n : ℕ) →
       Notes p (port_after_event (noting_steps b) p e o n) (steps_at_event b (bare_port p) e o)
   step_noted p Start o n = finish_noted p.owed p.meaning
   step_noted p Stop o n = finish_noted p.owed p.meaning

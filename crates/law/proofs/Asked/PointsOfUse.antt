@@ -1,5 +1,5 @@
 -- At each point of a use: the law, what the ports are at rest, and what a contender still in has carried so far.
-use Rattle.std.proofs.Common.{◌≡◌, ℕ, ◌⊎◌, List, [], ◌∷◌, ◌++◌, length, Some, None, Option, refl, ap, subst, inl, inr}
+use Rattle.std.proofs.Common.{◌≡◌, ℕ, ◌⊎◌, List, [], ◌∷◌, ◌++◌, length, None, Option, refl, ap, subst, inl, inr}
 use Rattle.transfer.specs.Transfer.{TransferModel}
 use Rattle.device.specs.Device.{Behaviour}
 use Rattle.host.specs.Host.{HostBehaviour}

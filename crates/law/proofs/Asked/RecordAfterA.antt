@@ -1,6 +1,6 @@
 -- After an A for the call of a leg or a byte written in it some device has noted the leg's select and its bytes so far.
-use Rattle.std.proofs.Common.{◌≡◌, ℕ, suc, ◌≤◌, Bool, true, false, List, [], ◌∷◌, ◌++◌, map, take as first}
-use Rattle.std.proofs.Common.{append_assoc, append-nil, Some, sym, refl, ap, ◌∙◌, subst, inl, inr}
+use Rattle.std.proofs.Common.{◌≡◌, ℕ, suc, ◌≤◌, true, false, List, [], ◌∷◌, ◌++◌, map, take as first}
+use Rattle.std.proofs.Common.{append_assoc, append-nil, Some, sym, ap, ◌∙◌, subst, inl, inr}
 use Rattle.std.specs.Prelude.{slice_index_or}
 use Rattle.std.proofs.lemmas.Bool.{cond_both, or_cases}
 use Rattle.std.proofs.lemmas.List.{map-append}
@@ -8,7 +8,7 @@ use Rattle.transfer.specs.declared.leg.Direction.{Direction}
 use Rattle.transfer.specs.declared.leg.Direction.TheVariants.{Write, Read}
 use Rattle.transfer.specs.Transfer.{TransferModel}
 use Rattle.transfer.specs.Leg.{BodyModel, writes, reads, LegModel}
-use Rattle.device.specs.Device.{Behaviour, Step, select, put, take}
+use Rattle.device.specs.Device.{Behaviour, select, put, take}
 use Rattle.master.specs.Cursor.{new_cursor}
 use Rattle.master.specs.Script.{transfers}
 use Rattle.transfer.specs.Address.{answers_to}
