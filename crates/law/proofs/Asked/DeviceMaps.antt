@@ -143,25 +143,13 @@ side_to bs cs h = record {
 module _ (W : Script) (D E : Side) (h : SideMorphism D E) where
   -- slot by slot
   letter_to : (x : Symbol) (s : D.S) → letter E x (h.to s) ≡ letter D x s
-  letter_to Zero s = refl
-  letter_to One s = refl
-  letter_to Listen s = ap (λ v. cond v low one) (h.pulls s)
-  letter_to RepeatedStart s = refl
-  letter_to Stop s = refl
+  letter_to x s = grind (arith, h.pulls s)
 
   heard_to : (x : Symbol) (s : D.S) → heard E x (h.to s) ≡ heard D x s
-  heard_to Zero s = refl
-  heard_to One s = refl
-  heard_to Listen s = ap not (h.pulls s)
-  heard_to RepeatedStart s = refl
-  heard_to Stop s = refl
+  heard_to x s = grind (arith, h.pulls s)
 
   after_to : (x : Symbol) (s : D.S) → after E x (h.to s) ≡ h.to (after D x s)
-  after_to Zero s = h.bit s false
-  after_to One s = h.bit s true
-  after_to Listen s = ap (λ v. E.bit (h.to s) (not v)) (h.pulls s) ∙ h.bit s (not (D.pulls s))
-  after_to RepeatedStart s = h.begin s
-  after_to Stop s = h.finish s
+  after_to x s = grind (arith, h.pulls s, h.bit s, h.begin s, h.finish s)
 
   -- a script that plays against both spells the same, and leaves the one as the other
   string_to : (n : ℕ) (c : W.Cursor) (s : D.S) → string W E n c (h.to s) ≡ string W D n c s

@@ -181,13 +181,7 @@ module _ (b : Behaviour) where
   -- what a device notes is what its port asks
   step_noted : (p : PortModel (noting_steps b)) (e : Event) (o : Option Bool) (n : ℕ) →
       Notes p (port_after_event (noting_steps b) p e o n) (steps_at_event b (bare_port p) e o)
-  step_noted p Start o n = finish_noted p.owed p.meaning
-  step_noted p Stop o n = finish_noted p.owed p.meaning
-  step_noted p Fall None n = nothing_noted p
-  step_noted p Fall (Some x) n = bit_noted p p.mode x n
-  step_noted p SteadyLow o n = nothing_noted p
-  step_noted p SteadyHigh o n = nothing_noted p
-  step_noted p (Rise x) o n = nothing_noted p
+  step_noted p e o n = grind (arith, finish_noted p.owed p.meaning, nothing_noted p, bit_noted p p.mode)
 
 abbrev pub same_holds : (ds : List Behaviour) → HoldAnswers ds → HoldAnswers (all_noting_steps ds)
 same_holds [] a = tt

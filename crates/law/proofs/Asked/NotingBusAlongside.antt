@@ -84,67 +84,16 @@ module _ (hs : List HostBehaviour) where
   not_stop es v e h k = let z : opened ≡ closed = sym h ∙ ap (turn_after es v) k in cc
 
 module _ (hs : List HostBehaviour) (ds : List Behaviour) where
-  abbrev opening : Book hs ds → Book hs ds
-  opening b = record { entries = bank_map entry_contending hs b.entries; devices = b.devices; turn = opened }
-
-  opens_entries : (b : Book hs ds) (v : Turn) →
-      (book_after_opening hs ds b v).entries ≡ entries_after hs b.entries v SteadyHigh []
-  opens_entries b opened = refl
-  opens_entries b closed = go (any_true (bank_list entry_is_armed hs b.entries)) where
-    go : (w : Bool) → (cond w (opening b) b).entries ≡ cond w (bank_map entry_contending hs b.entries) b.entries
-    go true = refl
-    go false = refl
-
-  opens_turn : (b : Book hs ds) (v : Turn) → b.turn ≡ v →
-      (book_after_opening hs ds b v).turn ≡ turn_after hs b.entries v SteadyHigh
-  opens_turn b opened e = e
-  opens_turn b closed e = go (any_true (bank_list entry_is_armed hs b.entries)) where
-    go : (w : Bool) → (cond w (opening b) b).turn ≡ cond w opened closed
-    go true = refl
-    go false = e
-
-  closes_entries : (b : Book hs ds) (v : Turn) →
-      (book_after_stop hs ds b v).entries ≡
-      cond (is_open v) (entries_after_turn hs b.entries (told_at_stop hs ds b v)) b.entries
-  closes_entries b opened = refl
-  closes_entries b closed = refl
-
-  closes_turn : (b : Book hs ds) (v : Turn) → b.turn ≡ v → (book_after_stop hs ds b v).turn ≡ closed
-  closes_turn b opened e = refl
-  closes_turn b closed e = e
-
   entries_are : (b : Book hs ds) (e : Event) →
       (book_after hs ds b e).entries ≡ entries_after hs b.entries b.turn e (book_told hs ds b e)
-  entries_are b SteadyHigh = opens_entries b b.turn
-  entries_are b Stop = closes_entries b b.turn
-  entries_are b (Rise x) = refl
-  entries_are b Fall = refl
-  entries_are b Start = refl
-  entries_are b SteadyLow = refl
+  entries_are b e = grind arith
 
   turn_is : (b : Book hs ds) (e : Event) → (book_after hs ds b e).turn ≡ turn_after hs b.entries b.turn e
-  turn_is b SteadyHigh = opens_turn b b.turn refl
-  turn_is b Stop = closes_turn b b.turn refl
-  turn_is b (Rise x) = refl
-  turn_is b Fall = refl
-  turn_is b Start = refl
-  turn_is b SteadyLow = refl
+  turn_is b e = grind arith
 
   -- only a stop that closes a turn changes the devices
-  opens_devices : (b : Book hs ds) (v : Turn) → (book_after_opening hs ds b v).devices ≡ b.devices
-  opens_devices b opened = refl
-  opens_devices b closed = go (any_true (bank_list entry_is_armed hs b.entries)) where
-    go : (w : Bool) → (cond w (opening b) b).devices ≡ b.devices
-    go true = refl
-    go false = refl
-
   devices_stay : (b : Book hs ds) (e : Event) → (e ≡ Stop → ⊥) → (book_after hs ds b e).devices ≡ b.devices
-  devices_stay b SteadyHigh n = opens_devices b b.turn
-  devices_stay b Stop n = absurd (n refl)
-  devices_stay b (Rise x) n = refl
-  devices_stay b Fall n = refl
-  devices_stay b Start n = refl
-  devices_stay b SteadyLow n = refl
+  devices_stay b e n = grind arith
 
 is_stop : (e : Event) → (e ≡ Stop) ⊎ (e ≡ Stop → ⊥)
 is_stop Stop = inl refl

@@ -47,24 +47,10 @@ module _ (D : Side) where
   last_letter one = false
 
   after_is : (x : Symbol) (s : D.S) → after D x s ≡ taken_by (letter D x s) s
-  after_is Zero s = refl
-  after_is One s = refl
-  after_is RepeatedStart s = refl
-  after_is ShowsStop s = refl
-  after_is Listen s = go (D.pulls s) where
-    go : (v : Bool) → D.bit s (not v) ≡ taken_by (cond v low one) s
-    go true = refl
-    go false = refl
+  after_is x s = grind arith
 
   ends_is : (x : Symbol) (s : D.S) → ends x ≡ last_letter (letter D x s)
-  ends_is Zero s = refl
-  ends_is One s = refl
-  ends_is RepeatedStart s = refl
-  ends_is ShowsStop s = refl
-  ends_is Listen s = go (D.pulls s) where
-    go : (v : Bool) → false ≡ last_letter (cond v low one)
-    go true = refl
-    go false = refl
+  ends_is x s = grind arith
 
 module _ (W : Script) (D : Side) where
   -- where both end alike and go on alike
