@@ -51,13 +51,8 @@ module _ (b c : Behaviour) (h : Morphism b c) where
       port_after_bit c (port_to p) m x n ≡ port_to (port_after_bit b p m x n)
   counts_to p m x n = grind (arith, h.selects, h.puts, h.takes)
 
-  settles_if : (v : Bool) (m : b.Meaning) → cond v (c.finish (h.to m)) (h.to m) ≡ h.to (cond v (b.finish m) m)
-  settles_if true m = h.finishes m
-  settles_if false m = refl
-
   settles_to : (p : PortModel b) (m : Mode) → port_after_finish c (port_to p) m ≡ port_to (port_after_finish b p m)
-  settles_to p m =
-      ap (λ z. record { address = p.address; meaning = z; owed = false; mode = m; hold = p.hold }) (settles_if p.owed p.meaning)
+  settles_to p m = grind (arith, h.finishes p.meaning)
 
   pub sees_to : (p : PortModel b) (e : Event) (o : Option Bool) (n : ℕ) →
       port_after_event c (port_to p) e o n ≡ port_to (port_after_event b p e o n)
@@ -161,8 +156,7 @@ module _ (W : Script) (D E : Side) (h : SideMorphism D E) where
       ∙ ap (λ l. letter D x s ∷ cond (ends x) [] l) (string_to n q (after D x s))
 
   last_if : (v : Bool) (s t : D.S) (u : E.S) → u ≡ h.to t → cond v (h.to s) u ≡ h.to (cond v s t)
-  last_if true s t u e = refl
-  last_if false s t u e = e
+  last_if v s t u e = grind (arith, e)
 
   last_to : (n : ℕ) (c : W.Cursor) (s : D.S) → last W E n c (h.to s) ≡ h.to (last W D n c s)
   last_to zero c s = refl

@@ -175,11 +175,7 @@ module _ (hs : List HostBehaviour) (ds : List Behaviour) where
       -- what the monitor saw before it marks
       saw : (F : List Behaviour) (z : Use hs F) → z.book.turn ≡ opened → event_at hs F z.bus ≡ Fall →
           monitor_after hs F z.watch z.book (event_at hs F z.bus) ≡ monitor_after_event z.watch Fall
-      saw F z o e =
-          let closed_next = cond (is_open (book_after hs F z.book Fall).turn)
-          (new_monitor (bank_list (λ h q. false) hs z.book.entries)) (monitor_after_event z.watch Fall) in
-          ap (monitor_after hs F z.watch z.book) e
-          ∙ ap (λ v. cond (is_open v) (monitor_after_event z.watch Fall) closed_next) o
+      saw F z o e = grind (arith, o, e)
 
       saw_too : monitor_after hs es y.watch y.book (event_at hs es y.bus) ≡ monitor_after_event x.watch Fall
       saw_too = saw es y (s.turn ∙ hears.turn) falls_too ∙ ap (λ w. monitor_after_event w Fall) s.watch

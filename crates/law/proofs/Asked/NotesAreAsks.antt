@@ -156,27 +156,11 @@ module _ (b : Behaviour) where
 
   finish_noted : (v : Bool) (m : StepsNoted b) →
       (cond v ((noting_steps b).finish m) m).steps ≡ m.steps ++ cond v (finish ∷ []) []
-  finish_noted true m = refl
-  finish_noted false m = sym (append-nil m.steps)
+  finish_noted v m = grind (arith, append-nil m.steps)
 
   bit_noted : (p : PortModel (noting_steps b)) (m : Mode) (x : Bool) (n : ℕ) →
       Notes p (port_after_bit (noting_steps b) p m x n) (steps_at_bit b (bare_port p) m x)
-  bit_noted p Out x n = nothing_noted p
-  bit_noted p (Addressing y) x n =
-      let v = shift_in y.value x in
-      let r = direction_of (eqb (v % 2) 1) in
-      either_notes (ltb y.bits 7) p _ _ [] _ (nothing_noted p)
-      (either_notes (answers_to p.address (v / 2)) p _ _
-      (select r (b.select p.meaning.meaning r).0 ∷ []) [] refl (nothing_noted p))
-  bit_noted p (Writing y) x n = let v = shift_in y.value x in
-      either_notes (ltb y.bits 7) p _ _ [] (put v (b.put p.meaning.meaning v).0 ∷ []) (nothing_noted p) refl
-  bit_noted p (Acknowledging Write) x n = nothing_noted p
-  bit_noted p (Acknowledging Read) true n = nothing_noted p
-  bit_noted p (Acknowledging Read) false n = refl
-  bit_noted p (Reading y) true n =
-      either_notes (ltb y.bits 8) p _ _ [] [] (nothing_noted p) (nothing_noted p)
-  bit_noted p (Reading y) false n =
-      either_notes (ltb y.bits 8) p _ _ [] (take (b.take p.meaning.meaning).0 ∷ []) (nothing_noted p) refl
+  bit_noted p m x n = grind (arith, append-nil p.meaning.steps)
 
   -- what a device notes is what its port asks
   step_noted : (p : PortModel (noting_steps b)) (e : Event) (o : Option Bool) (n : ℕ) →

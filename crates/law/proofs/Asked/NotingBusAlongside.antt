@@ -192,10 +192,8 @@ module _ (hs : List HostBehaviour) (ds : List Behaviour) where
     same_told = told_bare y.bus ∙ ap (told_at hs ds) s.bus
 
     long : length (asked_so_far x) ≡ length ds
-    long = go x.book.turn where
-      go : (v : Turn) → length (cond (is_open v) x.asked (no_steps hs ds x.bus)) ≡ length ds
-      go opened = s.many
-      go closed = length_listed (List Step) (λ b p. []) ds x.bus.ports
+    long = cond_both (is_open x.book.turn) x.asked (no_steps hs ds x.bus) (λ l. length l ≡ length ds)
+        (λ i. s.many) (λ i. length_listed (List Step) (λ b p. []) ds x.bus.ports)
 
     pub asked_many : length (steps_then hs ds x) ≡ length ds
     asked_many = length_longer (asked_so_far x) (steps_at hs ds x.bus) ∙ long

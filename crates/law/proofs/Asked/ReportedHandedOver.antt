@@ -179,9 +179,7 @@ module _ (a n : ℕ) where
 -- a transfer that is done has a last leg that is, and reports its bytes
 named_done : (es : List Behaviour) (k : OutcomeKind) (ys : List ℕ) → (outcome_of_kind es k ys).kind ≡ Done →
     (k ≡ Done) × ((outcome_of_kind es k ys).bytes ≡ ys)
-named_done es Done ys h = (refl, refl)
-named_done es (NoAnswer p) ys h = cc
-named_done es (Refused p) ys h = cc
+named_done es k ys h = grind (arith, h)
 
 -- the bytes of a leg that is done
 module _ (es : List Behaviour) where

@@ -140,8 +140,7 @@ module _ (ds : List Behaviour) where
 
   longer_by : (n x : ℕ) (r s : LegResult ds) (t : Bool) → s.levels ≡ [] → (s.kind ≡ Done → ⊥) →
       Long n r → Long (9 + n) (took ds x r s t)
-  longer_by n x r s true p q h = record { most = omega (arith, h.most); all = λ k. omega (arith, h.all k) }
-  longer_by n x r s false p q h = record { most = omega (arith, ap length p); all = λ k. absurd (q k) }
+  longer_by n x r s t p q h = record { most = grind (arith, h.most, p); all = λ k. grind (arith, h.all, p, q, k) }
 
   write_long : (l : ℕ) (xs : List ℕ) (n : ℕ) (e : Bank DeviceInLeg ds) → Long (9 * length xs) (write_result ds l xs n e)
   write_long l [] n e = record { most = omega arith; all = λ k. refl }

@@ -56,10 +56,7 @@ module _ (W : Script) (D : Side) where
   -- where both end alike and go on alike
   ends_both : (v w : Bool) (ts us : List Letter) (p q u r : D.S) → v ≡ w → p ≡ q →
       cond v [] ts ≡ cond w [] us → (ts ≡ us → u ≡ r) → cond v p u ≡ cond w q r
-  ends_both true true ts us p q u r e f h k = f
-  ends_both true false ts us p q u r e f h k = cc
-  ends_both false true ts us p q u r e f h k = cc
-  ends_both false false ts us p q u r e f h k = k h
+  ends_both v w ts us p q u r e f h k = grind (arith, k)
 
   -- two scripts that spell the same leave the side the same
   same_last : (n : ℕ) (c e : W.Cursor) (s : D.S) →
@@ -106,7 +103,7 @@ module _ (ds : List Behaviour) (d : Bank AddressedDevice ds) where
   told_one best c o h = go (same_string c.letters best.letters) refl h where
     go : (v : Bool) → same_string c.letters best.letters ≡ v → cond v (Some c.outcome) None ≡ Some o →
         (o ≡ c.outcome) × (same_string c.letters best.letters ≡ true)
-    go true e k = (let z : c.outcome ≡ o = cc in sym z, e)
+    go true e k = grind (arith, e, k)
     go false e k = cc
 
   -- whoever is told has the string of the best, and is told its own outcome
@@ -161,12 +158,7 @@ module _ (hs : List HostBehaviour) (ds : List Behaviour) where
 
     pub tells_at_stop : (o : OutcomeModel) (e : Event) → slice_index_or (book_told hs ds b e) i None ≡ Some o →
         (e ≡ Stop) × (b.turn ≡ opened)
-    tells_at_stop o Stop h = (refl, stop_turn o b.turn h)
-    tells_at_stop o (Rise x) h = let z = sym (nobody_at hs b.entries i) ∙ h in cc
-    tells_at_stop o Fall h = let z = sym (nobody_at hs b.entries i) ∙ h in cc
-    tells_at_stop o Start h = let z = sym (nobody_at hs b.entries i) ∙ h in cc
-    tells_at_stop o SteadyHigh h = let z = sym (nobody_at hs b.entries i) ∙ h in cc
-    tells_at_stop o SteadyLow h = let z = sym (nobody_at hs b.entries i) ∙ h in cc
+    tells_at_stop o e h = grind (arith, h, nobody_at hs b.entries i)
 
     devices_then : (best : TransferResult ds) (e : Event) → e ≡ Stop → b.turn ≡ opened →
         least_result ds results ≡ Some best → (book_after hs ds b e).devices ≡ best.devices
