@@ -1,5 +1,5 @@
 -- Maps of meanings that commute with the steps of devices carry along ports, and a transfer played or carried alone.
-use Rattle.std.proofs.Common.{◌≡◌, ℕ, zero, suc, Bool, true, false, cond, not, ◌||◌, List, [], ◌∷◌, Option, sym, refl}
+use Rattle.std.proofs.Common.{◌≡◌, ℕ, zero, suc, Bool, cond, ◌||◌, List, [], ◌∷◌, Option, sym, refl}
 use Rattle.std.proofs.Common.{ap, ◌∙◌, le_refl, arith}
 use Rattle.transfer.specs.declared.leg.Direction.{Direction}
 use Rattle.transfer.specs.Transfer.{TransferModel}
@@ -11,7 +11,6 @@ use Rattle.wire.specs.ByteProgress.{progress}
 use Rattle.wire.specs.Pulls.{pulls_or}
 use Rattle.port.specs.Port.{PortModel, port_pulls, port_after_bit, port_after_finish, port_after_event}
 use Rattle.master.specs.declared.symbol.Symbol.{Symbol}
-use Rattle.master.specs.declared.symbol.Symbol.TheVariants.{Zero, One, Listen, RepeatedStart, Stop}
 use Rattle.master.specs.Cursor.{new_cursor, outcome_of}
 use Rattle.master.specs.Script.{Script, transfers}
 use Rattle.law.specs.Bank.{Bank, bank_map, bank_list}
@@ -19,7 +18,6 @@ use Rattle.law.specs.Bus.{all_pulls}
 use Rattle.law.specs.TransferResult.{AddressedDevice, transfer_result}
 use Rattle.law.specs.Legal.{IsLegal}
 use Rattle.law.specs.Use.{addressed_device}
-use Rattle.law.specs.Letter.{zero as low, one}
 use Rattle.law.proofs.FarSide.{Side, ends, letter, heard, after, string, last, final}
 use Rattle.law.proofs.Alone.StepsOfBanks.{any}
 use Rattle.law.proofs.Alone.PlayedIsCarried.{carried_alone}

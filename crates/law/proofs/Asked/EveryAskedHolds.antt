@@ -1,5 +1,5 @@
 -- The law of what the ports asked of their devices in a turn holds over every use of a bus.
-use Rattle.std.proofs.Common.{◌≡◌, ℕ, zero, suc, ◌+◌, ◌<◌, Bool, true, false, cond, ◌||◌, ◌⊎◌, List, [], ◌∷◌, ◌++◌}
+use Rattle.std.proofs.Common.{◌≡◌, ℕ, zero, suc, ◌+◌, ◌<◌, Bool, true, false, ◌⊎◌, List, [], ◌∷◌, ◌++◌}
 use Rattle.std.proofs.Common.{length, length-append, Some, None, sym, refl, ap, ap₂, ◌∙◌, subst, inl, inr, arith}
 use Rattle.std.proofs.lemmas.List.{get_or-append-add}
 use Rattle.std.specs.Prelude.{slice_index_or}
@@ -10,7 +10,7 @@ use Rattle.transfer.specs.Outcome.{OutcomeModel}
 use Rattle.device.specs.Device.{Behaviour, Step}
 use Rattle.host.specs.Host.{HostBehaviour}
 use Rattle.master.specs.declared.mark.Mark.{Mark}
-use Rattle.master.specs.declared.mark.Mark.TheVariants.{Quiet, Told, Lost}
+use Rattle.master.specs.declared.mark.Mark.TheVariants.{Quiet, Lost}
 use Rattle.master.specs.Cursor.{new_cursor}
 use Rattle.master.specs.Script.{transfers}
 use Rattle.master.specs.Master.{HostedMaster}
@@ -20,15 +20,14 @@ use Rattle.wire.specs.Wire.{signal, busy_after}
 use Rattle.law.specs.AskedLaw.{all_noting_steps, all_nothing_noted, all_steps, steps_alone, leg_of, acknowledge_at}
 use Rattle.law.specs.AskedLaw.{Acknowledged, AtSomePort, handed_over, called_before, read_before, all_at, JoinedFrom}
 use Rattle.law.specs.AskedLaw.{addresses, Contends, StillIn, HearsA, AskedLaw, EveryAsked}
-use Rattle.law.specs.Bank.{Bank, bank_map, bank_list}
-use Rattle.law.specs.Book.{opened, is_open, book_told, book_after}
+use Rattle.law.specs.Bank.{Bank, bank_map}
+use Rattle.law.specs.Book.{opened, book_told, book_after}
 use Rattle.law.specs.Bus.{no_holds, levels_at, told_at, ClocksInRange}
 use Rattle.law.specs.TransferResult.{AddressedDevice, TransferResult, transfer_result}
 use Rattle.law.specs.Facts.{read_leg}
 use Rattle.law.specs.Legal.{IsLegal}
 use Rattle.law.specs.Letter.{Letter, zero as low, one}
-use Rattle.law.specs.Monitor.{new_monitor, monitor_after_event, marked_after}
-use Rattle.master.specs.Mark.{is_lost}
+use Rattle.law.specs.Monitor.{monitor_after_event, marked_after}
 use Rattle.law.specs.Use.{Use, lists_appended, event_at, marks_of, monitor_after, steps_then, use_after_tick, use_after}
 use Rattle.law.specs.Use.{new_use}
 use Rattle.law.proofs.FarSide.{string, last}
@@ -56,11 +55,7 @@ unmarked_after : (vs : List Bool) (ks : List Mark) (i : ℕ) → slice_index_or 
     (slice_index_or ks i Quiet ≡ Lost → ⊥) → slice_index_or (marked_after vs ks) i false ≡ false
 unmarked_after [] ks i e n = refl
 unmarked_after (v ∷ vs) [] i e n = e
-unmarked_after (v ∷ vs) (k ∷ ks) zero e n = ap (λ w. w || is_lost k) e ∙ not_lost k n where
-  not_lost : (k : Mark) → (k ≡ Lost → ⊥) → is_lost k ≡ false
-  not_lost Quiet n = refl
-  not_lost Told n = refl
-  not_lost Lost n = absurd (n refl)
+unmarked_after (v ∷ vs) (k ∷ ks) zero e n = grind (arith, e, n)
 unmarked_after (v ∷ vs) (k ∷ ks) (suc i) e n = unmarked_after vs ks i e n
 
 -- the letter behind these

@@ -1,19 +1,13 @@
 -- Devices that note their steps go as the devices do, whatever is noted already, and note in a tick what the ports ask.
-use Rattle.std.proofs.Common.{◌≡◌, ℕ, suc, ◌/◌, ◌%◌, ◌≤◌, Bool, true, false, cond, eqb, ltb, List, [], ◌∷◌, ◌++◌}
-use Rattle.std.proofs.Common.{length, append_assoc, append-nil, Some, None, Option, sym, refl, ap, ap₂, ◌∙◌, arith}
+use Rattle.std.proofs.Common.{◌≡◌, ℕ, suc, ◌≤◌, Bool, true, false, cond, List, [], ◌∷◌, ◌++◌}
+use Rattle.std.proofs.Common.{length, append_assoc, append-nil, Option, sym, refl, ap, ap₂, ◌∙◌, arith}
 use Rattle.std.proofs.lemmas.List.{append_cancel_left}
-use Rattle.transfer.specs.declared.leg.Direction.TheVariants.{Write, Read}
-use Rattle.transfer.specs.Leg.{direction_of}
 use Rattle.device.specs.Device.{Behaviour, Step, select, put, take, finish}
 use Rattle.port.specs.declared.port.Mode.{Mode}
-use Rattle.port.specs.declared.port.Mode.TheVariants.{Out, Addressing, Writing, Acknowledging, Reading}
-use Rattle.transfer.specs.Address.{answers_to}
 use Rattle.port.specs.Port.{PortModel, port_after_bit, port_after_event, reset_port, steps_at_bit, steps_at_event}
 use Rattle.port.specs.Port.{steps_asked}
 use Rattle.wire.specs.declared.event.Event.{Event}
-use Rattle.wire.specs.declared.event.Event.TheVariants.{Rise, Fall, Start, Stop, SteadyHigh, SteadyLow}
 use Rattle.wire.specs.declared.wire.Signal.{Signal}
-use Rattle.wire.specs.ByteProgress.{shift_in}
 use Rattle.law.specs.AskedLaw.{StepsNoted, with_step, noting_steps, all_noting_steps, all_nothing_noted, all_steps}
 use Rattle.law.specs.Bank.{Bank, bank_map, bank_list}
 use Rattle.law.specs.Bus.{HoldAnswers, ports_step}

@@ -1,5 +1,5 @@
 -- Beside each use of a bus goes one of a bus of noting devices, which have noted what was asked since the turn opened.
-use Rattle.std.proofs.Common.{◌≡◌, ℕ, zero, suc, Bool, true, false, cond, ◌||◌, ltb, ◌⊎◌, List, [], ◌∷◌, ◌++◌}
+use Rattle.std.proofs.Common.{◌≡◌, ℕ, zero, suc, Bool, false, cond, ◌||◌, ltb, ◌⊎◌, List, [], ◌∷◌, ◌++◌}
 use Rattle.std.proofs.Common.{append-nil, ap₂, length, Option, sym, refl, ap, ◌∙◌, subst, inl, inr, arith}
 use Rattle.std.proofs.lemmas.Bool.{cond_both}
 use Rattle.transfer.specs.Outcome.{OutcomeModel}
@@ -18,7 +18,7 @@ use Rattle.wire.specs.Wire.{signal, wire_after, busy_after}
 use Rattle.law.specs.AskedLaw.{all_noting_steps, all_steps, addresses}
 use Rattle.law.specs.Bank.{Bank, bank_map, bank_list, any_true}
 use Rattle.law.specs.Book.{Entry, entry_is_armed, entry_contending, entries_after_turn, arm_entry_at, Turn, closed}
-use Rattle.law.specs.Book.{opened, is_open, Book, book_after_opening, told_at_stop, book_after_stop, book_told}
+use Rattle.law.specs.Book.{opened, is_open, Book, book_told}
 use Rattle.law.specs.Book.{book_after}
 use Rattle.law.specs.Bus.{all_pulls, HoldAnswers, ports_step, BusModel, arm_at, levels_at, after_levels, tick_at}
 use Rattle.law.specs.Bus.{told_at, is_at_rest, ClocksInRange}
@@ -96,12 +96,7 @@ module _ (hs : List HostBehaviour) (ds : List Behaviour) where
   devices_stay b e n = grind arith
 
 is_stop : (e : Event) → (e ≡ Stop) ⊎ (e ≡ Stop → ⊥)
-is_stop Stop = inl refl
-is_stop SteadyHigh = inr (λ e. cc)
-is_stop (Rise x) = inr (λ e. cc)
-is_stop Fall = inr (λ e. cc)
-is_stop Start = inr (λ e. cc)
-is_stop SteadyLow = inr (λ e. cc)
+is_stop e = grind arith
 
 -- nothing behind leaves a list as it is
 longer_nothing : (ds : List Behaviour) (d : NotingDevices ds) (p : Bank PortModel ds) →

@@ -48,8 +48,7 @@ module _ (b : Behaviour) where
   -- one device more gives the first byte too
   first_one : (m : b.Meaning) (t : Bool) (n z : ℕ) (xss : List (List ℕ)) → z < 256 → z ≡ joint_byte (all_at 0 xss) →
       bit_and (cond t (b.take m).0 255) z ≡ joint_byte (all_at 0 (gave_if b t (suc n) m ∷ xss))
-  first_one m true n z xss h e = ap (bit_and (b.take m).0) e
-  first_one m false n z xss h e = and_comm 255 z ∙ (mask z h ∙ e)
+  first_one m t n z xss h e = grind (arith, and_comm 255 z, mask z h, e)
 
   abbrev byte_at : ℕ → b.Meaning → ℕ → Bool → List ℕ
   byte_at n m k t = option_to_list (slice_get (gave_if b t n m) k)

@@ -218,8 +218,7 @@ module _ (ds : List Behaviour) where
   after_bits : (x m : ℕ) (r s : LegResult ds) (t : Bool) (p q u : Bank PortModel ds) → t ≡ true →
       plays p (byte_levels x false) ≡ q → plays q (take m r.levels) ≡ u →
       plays p (take (past_byte m) (took ds x r s t).levels) ≡ u
-  after_bits x m r s true p q u e f h = ap (λ v. plays v (take m r.levels)) f ∙ h
-  after_bits x m r s false p q u e f h = cc
+  after_bits x m r s t p q u e f h = grind (arith, e, f, h)
 
   someone_took : (x : ℕ) (r s : LegResult ds) (t : Bool) (k : ℕ) → s.levels ≡ [] →
       slice_index_or (took ds x r s t).levels (past_byte k) true ≡ false → t ≡ true

@@ -1,18 +1,18 @@
 -- Who is told at a stop: the outcome is its own, and its steps are those that the devices take.
-use Rattle.std.proofs.Common.{◌≡◌, ℕ, zero, suc, ◌+◌, Bool, true, false, cond, not, List, [], ◌∷◌, map, Some, None}
+use Rattle.std.proofs.Common.{◌≡◌, ℕ, zero, suc, ◌+◌, Bool, true, false, cond, List, [], ◌∷◌, map, Some, None}
 use Rattle.std.proofs.Common.{Option, sym, refl, ap, ◌∙◌, arith}
 use Rattle.std.specs.Prelude.{slice_index_or}
+use Rattle.std.proofs.lemmas.Option.{cond_some}
 use Rattle.std.specs.Option.{option_map}
 use Rattle.transfer.specs.Transfer.{TransferModel}
 use Rattle.transfer.specs.Outcome.{OutcomeModel}
 use Rattle.device.specs.Device.{Behaviour}
 use Rattle.host.specs.Host.{HostBehaviour}
 use Rattle.master.specs.declared.symbol.Symbol.{Symbol}
-use Rattle.master.specs.declared.symbol.Symbol.TheVariants.{Zero, One, Listen, RepeatedStart, Stop as ShowsStop}
 use Rattle.master.specs.Cursor.{new_cursor}
 use Rattle.master.specs.Script.{Script, transfers}
 use Rattle.wire.specs.declared.event.Event.{Event}
-use Rattle.wire.specs.declared.event.Event.TheVariants.{Rise, Fall, Start, Stop, SteadyHigh, SteadyLow}
+use Rattle.wire.specs.declared.event.Event.TheVariants.{Stop}
 use Rattle.law.specs.Bank.{Bank, bank_list}
 use Rattle.law.specs.Book.{Entry, outcome_if_least, outcomes_of_turn, told_at_stop, book_told, Turn, closed, opened}
 use Rattle.law.specs.Book.{Book, least_result, devices_after, contender_results, book_after_stop, book_after}
@@ -100,11 +100,7 @@ module _ (ds : List Behaviour) (d : Bank AddressedDevice ds) where
 
   told_one : (best c : TransferResult ds) (o : OutcomeModel) → outcome_if_least ds best (Some c) ≡ Some o →
       (o ≡ c.outcome) × (same_string c.letters best.letters ≡ true)
-  told_one best c o h = go (same_string c.letters best.letters) refl h where
-    go : (v : Bool) → same_string c.letters best.letters ≡ v → cond v (Some c.outcome) None ≡ Some o →
-        (o ≡ c.outcome) × (same_string c.letters best.letters ≡ true)
-    go true e k = grind (arith, e, k)
-    go false e k = cc
+  told_one best c o h = let z = cond_some (same_string c.letters best.letters) c.outcome o h in (sym z.1, z.0)
 
   -- whoever is told has the string of the best, and is told its own outcome
   record Won (q : Option (TransferResult ds)) (c : TransferResult ds) (o : OutcomeModel) : Type 0 where
