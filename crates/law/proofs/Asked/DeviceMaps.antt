@@ -33,7 +33,7 @@ pub record Morphism (b c : Behaviour) : Type 0 where
   pub takes : (m : b.Meaning) → c.take (to m) ≡ ((b.take m).0, to (b.take m).1)
   pub finishes : (m : b.Meaning) → c.finish (to m) ≡ to (b.finish m)
 
--- one for each device
+-- one for each device of two banks
 pub data Morphisms : List Behaviour → List Behaviour → Type 1 where
   empty : Morphisms [] []
   also : (b c : Behaviour) (bs cs : List Behaviour) → Morphism b c → Morphisms bs cs → Morphisms (b ∷ bs) (c ∷ cs)
@@ -116,7 +116,7 @@ side_pulling : {bs cs : List Behaviour} (h : Morphisms bs cs) (s : Bank PortMode
 side_pulling empty s = refl
 side_pulling (also b c bs cs f h) s = ap (λ v. pulling b s.0 || v) (side_pulling h s.1)
 
--- one side that goes as another
+-- a map of the states of one side to those of another that commutes with what they do
 pub record SideMorphism (D E : Side) : Type 0 where
   pub to : D.S → E.S
   pub pulls : (s : D.S) → E.pulls (to s) ≡ D.pulls s
@@ -153,6 +153,7 @@ module _ (W : Script) (D E : Side) (h : SideMorphism D E) where
       (λ i. letter_to x s i ∷ cond (ends x) [] (string W E n (W.next c (heard_to x s i)) (after_to x s i)))
       ∙ ap (λ l. letter D x s ∷ cond (ends x) [] l) (string_to n q (after D x s))
 
+  -- at the end, and before it
   last_if : (v : Bool) (s t : D.S) (u : E.S) → u ≡ h.to t → cond v (h.to s) u ≡ h.to (cond v s t)
   last_if v s t u e = grind (arith, e)
 

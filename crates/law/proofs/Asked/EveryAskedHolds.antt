@@ -44,7 +44,7 @@ use Rattle.law.proofs.Bus.LawOfUse.{legal_at}
 use Rattle.law.proofs.Asked.DeviceMaps.{Morphisms, devices_at, port_addresses, device_addresses, same_addresses}
 use Rattle.law.proofs.Asked.DeviceMaps.{devices_at_unheld, ports_to, devices_to, addresses_to, played_to, spelled_to}
 use Rattle.law.proofs.Asked.DeviceMaps.{carried_devices, carried_outcome}
-use Rattle.law.proofs.Asked.NotesAreAsks.{NotingDevices, NotingPorts, longer_cancel, forgetting, after_these, noted_by}
+use Rattle.law.proofs.Asked.NotesAreAsks.{NotingDevices, NotingPorts, lists_appended_cancel, forgetting, after_these, noted_by}
 use Rattle.law.proofs.Asked.NotesAreAsks.{length_noted, bare_unnoted, noted_again, noted_after, noted_by_after}
 use Rattle.law.proofs.Asked.NotesAreAsks.{noted_unheld, same_holds}
 use Rattle.law.proofs.Asked.NothingAskedAtRest.{nothing_at_rest}
@@ -98,7 +98,7 @@ module _ (hs : List HostBehaviour) (ds : List Behaviour) where
     cancelled : (ss : List (List Step)) → length ss ≡ length ds →
         lists_appended before ss ≡ lists_appended before (steps_then hs ds x) → ss ≡ steps_then hs ds x
     cancelled ss n e = let m = length_noted ds y.book.devices in
-        longer_cancel before ss (steps_then hs ds x) (n ∙ sym m) (asked_many hs ds y x s ∙ sym m) e
+        lists_appended_cancel before ss (steps_then hs ds x) (n ∙ sym m) (asked_many hs ds y x s ∙ sym m) e
 
     contends_too : (i : ℕ) (t : TransferModel) → Contends hs ds x i t → Contends hs es y i t
     contends_too i t c = ap (λ b. slice_index_or (contenders hs b) i None) s.entries ∙ c

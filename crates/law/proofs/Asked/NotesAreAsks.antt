@@ -17,31 +17,31 @@ use Rattle.law.proofs.Alone.PortsAsSide.{unheld}
 use Rattle.law.proofs.Asked.DeviceMaps.{Morphism, Morphisms, empty, also, port_to, sees_to, devices_to, ports_to}
 use Rattle.law.proofs.Asked.DeviceMaps.{devices_at, devices_at_to, devices_at_unheld}
 
--- lists that grow
-pub longer_longer : (xs ys zs : List (List Step)) → length xs ≤ length ys →
+-- lists of lists, each with new steps behind it
+pub lists_appended_assoc : (xs ys zs : List (List Step)) → length xs ≤ length ys →
     lists_appended (lists_appended xs ys) zs ≡ lists_appended xs (lists_appended ys zs)
-longer_longer [] ys zs h = refl
-longer_longer (x ∷ xs) [] zs h = absurd (omega arith)
-longer_longer (x ∷ xs) (y ∷ ys) [] h = refl
-longer_longer (x ∷ xs) (y ∷ ys) (z ∷ zs) h = ap₂ ◌∷◌ (append_assoc x y z) (longer_longer xs ys zs (omega arith))
+lists_appended_assoc [] ys zs h = refl
+lists_appended_assoc (x ∷ xs) [] zs h = absurd (omega arith)
+lists_appended_assoc (x ∷ xs) (y ∷ ys) [] h = refl
+lists_appended_assoc (x ∷ xs) (y ∷ ys) (z ∷ zs) h = ap₂ ◌∷◌ (append_assoc x y z) (lists_appended_assoc xs ys zs (omega arith))
 
-pub length_longer : (xs ys : List (List Step)) → length (lists_appended xs ys) ≡ length xs
-length_longer [] ys = refl
-length_longer (x ∷ xs) [] = refl
-length_longer (x ∷ xs) (y ∷ ys) = ap suc (length_longer xs ys)
+pub length_lists_appended : (xs ys : List (List Step)) → length (lists_appended xs ys) ≡ length xs
+length_lists_appended [] ys = refl
+length_lists_appended (x ∷ xs) [] = refl
+length_lists_appended (x ∷ xs) (y ∷ ys) = ap suc (length_lists_appended xs ys)
 
 -- a common front cancels
-pub longer_cancel : (xs ys zs : List (List Step)) → length ys ≡ length xs → length zs ≡ length xs →
+pub lists_appended_cancel : (xs ys zs : List (List Step)) → length ys ≡ length xs → length zs ≡ length xs →
     lists_appended xs ys ≡ lists_appended xs zs → ys ≡ zs
-longer_cancel [] [] [] h k e = refl
-longer_cancel [] [] (z ∷ zs) h k e = absurd (omega arith)
-longer_cancel [] (y ∷ ys) zs h k e = absurd (omega arith)
-longer_cancel (x ∷ xs) [] zs h k e = absurd (omega arith)
-longer_cancel (x ∷ xs) (y ∷ ys) [] h k e = absurd (omega arith)
-longer_cancel (x ∷ xs) (y ∷ ys) (z ∷ zs) h k e =
+lists_appended_cancel [] [] [] h k e = refl
+lists_appended_cancel [] [] (z ∷ zs) h k e = absurd (omega arith)
+lists_appended_cancel [] (y ∷ ys) zs h k e = absurd (omega arith)
+lists_appended_cancel (x ∷ xs) [] zs h k e = absurd (omega arith)
+lists_appended_cancel (x ∷ xs) (y ∷ ys) [] h k e = absurd (omega arith)
+lists_appended_cancel (x ∷ xs) (y ∷ ys) (z ∷ zs) h k e =
     let head : x ++ y ≡ x ++ z = cc in
     let tail : lists_appended xs ys ≡ lists_appended xs zs = cc in
-    ap₂ ◌∷◌ (append_cancel_left x y z head) (longer_cancel xs ys zs (omega arith) (omega arith) tail)
+    ap₂ ◌∷◌ (append_cancel_left x y z head) (lists_appended_cancel xs ys zs (omega arith) (omega arith) tail)
 
 module _ (b : Behaviour) where
   -- without what is noted
@@ -137,6 +137,7 @@ module _ (b : Behaviour) where
   abbrev bare_port : PortModel (noting_steps b) → PortModel b
   bare_port p = port_to (noting_steps b) b (forget b) p
 
+  -- from p to q a device noted these steps
   abbrev Notes : PortModel (noting_steps b) → PortModel (noting_steps b) → List Step → Type 0
   Notes p q ss = q.meaning.steps ≡ p.meaning.steps ++ ss
 

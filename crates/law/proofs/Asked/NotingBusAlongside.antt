@@ -30,7 +30,7 @@ use Rattle.law.specs.Law.{Law}
 use Rattle.law.specs.Limits.{most_ticks}
 use Rattle.law.proofs.Asked.DeviceMaps.{pulls_to, devices_at, devices_at_to, port_addresses, device_addresses}
 use Rattle.law.proofs.Asked.DeviceMaps.{same_addresses, devices_of_idle}
-use Rattle.law.proofs.Asked.NotesAreAsks.{NotingDevices, longer_longer, length_longer, forgetting, bare_devices}
+use Rattle.law.proofs.Asked.NotesAreAsks.{NotingDevices, lists_appended_assoc, length_lists_appended, forgetting, bare_devices}
 use Rattle.law.proofs.Asked.NotesAreAsks.{bare_ports, noted_by, length_noted, noted_unheld, same_holds, steps_noted}
 use Rattle.law.proofs.Asked.NotesAreAsks.{steps_bare, with_notes, new_bare}
 use Rattle.law.proofs.Asked.PointsOfUse.{AtRest, Standing, after_calls, then_one, law_holds, stands_holds, law_then}
@@ -80,10 +80,12 @@ module _ (hs : List HostBehaviour) where
   monitored w v u es e = cond (is_open v) (monitor_after_event w e)
       (cond (is_open u) (new_monitor (bank_list (λ h x. false) hs es)) (monitor_after_event w e))
 
+  -- no turn is open after a stop
   not_stop : (es : Bank Entry hs) (v : Turn) (e : Event) → turn_after es v e ≡ opened → e ≡ Stop → ⊥
   not_stop es v e h k = let z : opened ≡ closed = sym h ∙ ap (turn_after es v) k in cc
 
 module _ (hs : List HostBehaviour) (ds : List Behaviour) where
+  -- the book's entries and turn go by these
   entries_are : (b : Book hs ds) (e : Event) →
       (book_after hs ds b e).entries ≡ entries_after hs b.entries b.turn e (book_told hs ds b e)
   entries_are b e = grind arith
@@ -99,10 +101,10 @@ is_stop : (e : Event) → (e ≡ Stop) ⊎ (e ≡ Stop → ⊥)
 is_stop e = grind arith
 
 -- nothing behind leaves a list as it is
-longer_nothing : (ds : List Behaviour) (d : NotingDevices ds) (p : Bank PortModel ds) →
+lists_appended_nothing : (ds : List Behaviour) (d : NotingDevices ds) (p : Bank PortModel ds) →
     lists_appended (all_steps ds d) (bank_list (λ b q. []) ds p) ≡ all_steps ds d
-longer_nothing [] d p = refl
-longer_nothing (b ∷ ds) d p = ap₂ ◌∷◌ (append-nil d.0.meaning.steps) (longer_nothing ds d.1 p.1)
+lists_appended_nothing [] d p = refl
+lists_appended_nothing (b ∷ ds) d p = ap₂ ◌∷◌ (append-nil d.0.meaning.steps) (lists_appended_nothing ds d.1 p.1)
 
 length_listed : (X : Type 0) (f : (b : Behaviour) → PortModel b → X) (ds : List Behaviour) (p : Bank PortModel ds) →
     length (bank_list f ds p) ≡ length ds
@@ -191,7 +193,7 @@ module _ (hs : List HostBehaviour) (ds : List Behaviour) where
         (λ i. s.many) (λ i. length_listed (List Step) (λ b p. []) ds x.bus.ports)
 
     pub asked_many : length (steps_then hs ds x) ≡ length ds
-    asked_many = length_longer (asked_so_far x) (steps_at hs ds x.bus) ∙ long
+    asked_many = length_lists_appended (asked_so_far x) (steps_at hs ds x.bus) ∙ long
 
     -- in the next tick too
     pub asked_noted : (a : HoldAnswers ds) → noted_by ds (tick_at hs es y.bus (same_holds ds a)).1.ports ≡
@@ -202,7 +204,7 @@ module _ (hs : List HostBehaviour) (ds : List Behaviour) where
         noted_bare y.bus a
         ∙ (ap (λ u. lists_appended (noted_by ds y.bus.ports) (steps_at hs ds u)) s.bus
         ∙ (ap (λ l. lists_appended l now) s.noted
-        ∙ longer_longer ss (asked_so_far x) now (let z = long in let w = length_noted ds y.book.devices in omega arith)))
+        ∙ lists_appended_assoc ss (asked_so_far x) now (let z = long in let w = length_noted ds y.book.devices in omega arith)))
 
   -- at rest nothing is noted but what the book's devices have
   noted_at_rest : (y : Use hs es) (x : Use hs ds) → y.book.turn ≡ closed → x.book.turn ≡ closed → AtRest hs es y →
@@ -213,7 +215,7 @@ module _ (hs : List HostBehaviour) (ds : List Behaviour) where
       sym (noted_unheld ds y.bus.ports)
       ∙ (ap (noted_by ds) (rests e)
       ∙ (ap (all_steps ds) (devices_of_idle es y.book.devices)
-      ∙ (sym (longer_nothing ds y.book.devices x.bus.ports) ∙ ap (λ v. lists_appended ss (asked v)) (sym f))))
+      ∙ (sym (lists_appended_nothing ds y.book.devices x.bus.ports) ∙ ap (λ v. lists_appended ss (asked v)) (sym f))))
 
   module _ (y : Use hs es) (x : Use hs ds) (n : ℕ) (s : Alongside y x) where
     armed_alongside : Alongside (use_after_call hs es y (arms n)) (use_after_call hs ds x (arms n))

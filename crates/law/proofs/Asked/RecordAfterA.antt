@@ -74,13 +74,14 @@ module _ (a : ℕ) (r : Direction) where
   all_put x ys [] e h = tt
   all_put x ys (b ∷ ds) e h = (put_took b x ys e.0 h.0, all_put x ys ds e.1 h.1)
 
-  all_having : (xs ys : List ℕ) (ds : List Behaviour) (e : NotingInLeg ds) →
+  -- all that are in took the bytes of these puts
+  all_puts : (xs ys : List ℕ) (ds : List Behaviour) (e : NotingInLeg ds) →
       AllTook ys ds e → AllTook (ys ++ xs) ds (devices_after_puts (all_noting_steps ds) xs e)
-  all_having [] ys ds e h = subst (λ l. AllTook l ds e) (sym (append-nil ys)) h
-  all_having (x ∷ xs) ys ds e h =
+  all_puts [] ys ds e h = subst (λ l. AllTook l ds e) (sym (append-nil ys)) h
+  all_puts (x ∷ xs) ys ds e h =
       let w = put_to_all (all_noting_steps ds) x e in
       subst (λ l. AllTook l ds (devices_after_puts (all_noting_steps ds) xs w)) (append_assoc ys (x ∷ []) xs)
-      (all_having xs (ys ++ (x ∷ [])) ds w (all_put x ys ds e h))
+      (all_puts xs (ys ++ (x ∷ [])) ds w (all_put x ys ds e h))
 
 -- called for a read, it gives a first byte at once
 read_took : (n m a : ℕ) (b : Behaviour) (p : DeviceInLeg (noting_steps b)) → p.inside ≡ true → Took a Read b [] p →
@@ -132,7 +133,7 @@ module _ (a m : ℕ) where
       let es = all_noting_steps ds in
       let e = called_for es a Write d in
       writing xs ds (devices_after_puts es (first m xs) e)
-      (all_having a Write (first m xs) [] ds e (all_called a Write ds d)) h
+      (all_puts a Write (first m xs) [] ds e (all_called a Write ds d)) h
   in_leg_reached (reads n) ds d h = reading n ds (called_for (all_noting_steps ds) a Read d) (all_called a Read ds d) h
 
 -- once the slots up to this acknowledge are gone, and its own

@@ -27,7 +27,7 @@ use Rattle.law.specs.Facts.{read_leg}
 use Rattle.law.proofs.Alone.ByteLawsHold.{took, mask}
 use Rattle.law.proofs.Asked.DeviceMaps.{device_addresses}
 use Rattle.law.proofs.Asked.NotesAreAsks.{NotingDevices, NotingInLeg}
-use Rattle.law.proofs.Asked.SomebodyInAfterA.{settled}
+use Rattle.law.proofs.Asked.SomebodyInAfterA.{devices_after_leg}
 use Rattle.law.proofs.Asked.NotesOfLeg.{took_keeps, one_call, Since, calls_since, gave_if, Together, together_still, gives_in}
 use Rattle.law.proofs.Asked.NotesOfLeg.{After, AfterRead, leg_noted, read_leg_noted}
 use Rattle.law.proofs.Alone.PortsWithinByte.{joined_byte, called_for, put_to_all}
@@ -232,7 +232,7 @@ module _ (ds : List Behaviour) (d : Bank AddressedDevice ds) (a n y : ℕ) (h : 
 
   -- a byte of a read in leg 0, whatever is read behind it
   in_first : (more : List ℕ) (z : NotingDevices ds) → let r = leg_result rs 0 (read_leg a n) new in
-      r.kind ≡ Done → Together AddressedDevice More ds (settled rs r) z →
+      r.kind ≡ Done → Together AddressedDevice More ds (devices_after_leg rs r) z →
       JoinedFrom (by (λ o. 0) z) (slice_index_or (r.bytes ++ more) y 0)
   in_first more z k m =
       let r = leg_result rs 0 (read_leg a n) new in
@@ -245,17 +245,17 @@ module _ (ds : List Behaviour) (d : Bank AddressedDevice ds) (a n y : ℕ) (h : 
       ∙ ap (λ l. slice_index_or l y 0) q.0) in
       joined_as (all_at y (hands n ds e)) (by (λ o. 0) z) (slice_index_or (read_result rs n e).bytes y 0)
       (slice_index_or (r.bytes ++ more) y 0)
-      (ap (all_at y) (sym (handed_first a n ds d (settled rs r) z s m))) bytes (read_hands n y ds e h q.2)
+      (ap (all_at y) (sym (handed_first a n ds d (devices_after_leg rs r) z s m))) bytes (read_hands n y ds e h q.2)
 
   -- a byte of a read in leg 1, behind leg w
   in_second : (w : LegModel) →
       let r = leg_result rs 0 w new in
-      let q = leg_result rs 1 (read_leg a n) (settled rs r) in
+      let q = leg_result rs 1 (read_leg a n) (devices_after_leg rs r) in
       r.kind ≡ Done → q.kind ≡ Done →
-      JoinedFrom (by (called_in w.address) (settled rs q)) (slice_index_or (r.bytes ++ q.bytes) (body_reads w.body + y) 0)
+      JoinedFrom (by (called_in w.address) (devices_after_leg rs q)) (slice_index_or (r.bytes ++ q.bytes) (body_reads w.body + y) 0)
   in_second w k j =
       let r = leg_result rs 0 w new in
-      let s = settled rs r in
+      let s = devices_after_leg rs r in
       let q = leg_result rs 1 (read_leg a n) s in
       let u = answered rs 1 (read_leg a n) s j in
       let e = called_for rs a Read s in
@@ -267,9 +267,9 @@ module _ (ds : List Behaviour) (d : Bank AddressedDevice ds) (a n y : ℕ) (h : 
       let bytes : slice_index_or (read_result rs n e).bytes y 0 ≡ slice_index_or all (body_reads w.body + y) 0 =
       sym (ap (λ m. slice_index_or all (m + y) 0) (sym long)
       ∙ (get_or-append-add r.bytes q.bytes y 0 ∙ ap (λ l. slice_index_or l y 0) u.0)) in
-      joined_as (all_at y (hands n ds e)) (by (called_in w.address) (settled rs q))
+      joined_as (all_at y (hands n ds e)) (by (called_in w.address) (devices_after_leg rs q))
       (slice_index_or (read_result rs n e).bytes y 0) (slice_index_or all (body_reads w.body + y) 0)
-      (ap (all_at y) (sym (handed_second a n w.address ds d s (settled rs q) (leg_noted w.address ds 0 w.body new) f)))
+      (ap (all_at y) (sym (handed_second a n w.address ds d s (devices_after_leg rs q) (leg_noted w.address ds 0 w.body new) f)))
       bytes (read_hands n y ds e h u.2)
 
   first_told : (o : Option LegModel) → let r = leg_result rs 0 (read_leg a n) new in (k : OutcomeKind) → r.kind ≡ k →
@@ -278,15 +278,15 @@ module _ (ds : List Behaviour) (d : Bank AddressedDevice ds) (a n y : ℕ) (h : 
   first_told None Done e g =
       let r = leg_result rs 0 (read_leg a n) new in
       let z = named_done rs r.kind r.bytes g in
-      subst (λ l. JoinedFrom (by (λ o. 0) (settled rs r)) (slice_index_or l y 0)) (sym (z.1 ∙ sym (append-nil r.bytes)))
-      (in_first [] (settled rs r) z.0 (no_calls_more ds (settled rs r)))
+      subst (λ l. JoinedFrom (by (λ o. 0) (devices_after_leg rs r)) (slice_index_or l y 0)) (sym (z.1 ∙ sym (append-nil r.bytes)))
+      (in_first [] (devices_after_leg rs r) z.0 (no_calls_more ds (devices_after_leg rs r)))
   first_told (Some w) Done e g =
       let r = leg_result rs 0 (read_leg a n) new in
-      let s = settled rs r in
+      let s = devices_after_leg rs r in
       let q = leg_result rs 1 w s in
       let z = named_done rs q.kind (r.bytes ++ q.bytes) g in
-      subst (λ l. JoinedFrom (by (λ o. 0) (settled rs q)) (slice_index_or l y 0)) (sym z.1)
-      (in_first q.bytes (settled rs q) e (leg_more w.address ds s (settled rs q) (leg_noted w.address ds 1 w.body s)))
+      subst (λ l. JoinedFrom (by (λ o. 0) (devices_after_leg rs q)) (slice_index_or l y 0)) (sym z.1)
+      (in_first q.bytes (devices_after_leg rs q) e (leg_more w.address ds s (devices_after_leg rs q) (leg_noted w.address ds 1 w.body s)))
   first_told o (NoAnswer p) e g =
       let r = leg_result rs 0 (read_leg a n) new in let z = sym e ∙ (named_done rs r.kind r.bytes g).0 in cc
   first_told o (Refused p) e g =
@@ -298,9 +298,9 @@ module _ (ds : List Behaviour) (d : Bank AddressedDevice ds) (a n y : ℕ) (h : 
       JoinedFrom (by (called_in w.address) c.devices) (slice_index_or c.outcome.bytes (body_reads w.body + y) 0)
   second_told w Done e g =
       let r = leg_result rs 0 w new in
-      let q = leg_result rs 1 (read_leg a n) (settled rs r) in
+      let q = leg_result rs 1 (read_leg a n) (devices_after_leg rs r) in
       let z = named_done rs q.kind (r.bytes ++ q.bytes) g in
-      subst (λ l. JoinedFrom (by (called_in w.address) (settled rs q)) (slice_index_or l (body_reads w.body + y) 0))
+      subst (λ l. JoinedFrom (by (called_in w.address) (devices_after_leg rs q)) (slice_index_or l (body_reads w.body + y) 0))
       (sym z.1) (in_second w e z.0)
   second_told w (NoAnswer p) e g =
       let r = leg_result rs 0 w new in let z = sym e ∙ (named_done rs r.kind r.bytes g).0 in cc

@@ -51,7 +51,7 @@ module _ (W : Script) (D : Side) where
       last W D (suc k) c s ≡ last W D k (W.next c b) v
   one_slot k c s v b h = rw (h.open_is, h.heard_is, h.after_is)
 
-  -- in these slots
+  -- the side after some of the slots of given levels
   last_in : (m : ℕ) (bs : List Bool) (K : W.Cursor → D.S → Type 0) (c : W.Cursor) (s : D.S) →
       m ≤ length bs → Carries W D c s bs K → last W D m c s ≡ play s (take m bs)
   last_in zero bs K c s h k = refl
@@ -59,7 +59,7 @@ module _ (W : Script) (D : Side) where
   last_in (suc m) (b ∷ bs) K c s h k = one_slot m c s (D.bit s b) b (level_slot D (W.symbol c) s b k.0)
       ∙ last_in m bs K (W.next c b) (D.bit s b) (omega arith) k.1
 
-  -- past them
+  -- and after all of them and some slots more
   last_past : (m n : ℕ) (bs : List Bool) (c : W.Cursor) (s u : D.S) →
       n ≡ length bs + m → Carries W D c s bs (λ q v. last W D m q v ≡ u) → last W D n c s ≡ u
   last_past m n [] c s u e h = let z : n ≡ m = omega arith in ap (λ j. last W D j c s) z ∙ h
@@ -266,12 +266,12 @@ module _ (ds : List Behaviour) where
       (t, after_bits x 0 r s (any_in ds e) (starts d) (ready ds b e) (ready ds b e) t (leg_called a b d h) refl)
 
   -- the devices in a leg after its first m bytes
-  abbrev having_first : BodyModel → ℕ → Bank DeviceInLeg ds → Bank DeviceInLeg ds
-  having_first (writes xs) m e = devices_after_puts ds (take m xs) e
-  having_first (reads n) m e = e
+  abbrev after_first : BodyModel → ℕ → Bank DeviceInLeg ds → Bank DeviceInLeg ds
+  after_first (writes xs) m e = devices_after_puts ds (take m xs) e
+  after_first (reads n) m e = e
 
   abbrev pub in_leg_after : LegModel → ℕ → Bank AddressedDevice ds → Bank DeviceInLeg ds
-  in_leg_after g m d = having_first g.body m (called_for ds g.address (body_direction g.body) d)
+  in_leg_after g m d = after_first g.body m (called_for ds g.address (body_direction g.body) d)
 
   leg_played : (l a : ℕ) (b : BodyModel) (d : Bank AddressedDevice ds) (m : ℕ) →
       a < 128 → IsLegalBody b → m ≤ body_writes b →
@@ -324,8 +324,8 @@ module _ (ds : List Behaviour) where
       record { before = d; some = z.0; then = slots_of_leg g l o ys d (suc (9 * m + 8)) f (omega arith) ∙ z.1 }
 
   -- the devices after a leg
-  abbrev pub settled : LegResult ds → Bank AddressedDevice ds
-  settled r = bank_map device_after_leg ds r.devices
+  abbrev pub devices_after_leg : LegResult ds → Bank AddressedDevice ds
+  devices_after_leg r = bank_map device_after_leg ds r.devices
 
   -- leg 0
   first_answered : (g : LegModel) (o : Option LegModel) (d : Bank AddressedDevice ds) (m : ℕ) →
@@ -342,7 +342,7 @@ module _ (ds : List Behaviour) where
   first_answered g (Some i) d m f h Done e q =
       let r = leg_result ds 0 g d in
       let z = (leg_long 0 g d).all e in
-      let s = leg_result ds 1 i (settled r) in
+      let s = leg_result ds 1 i (devices_after_leg r) in
       let u = writes_within g.body in
       let rest = restart ∷ (map bit_letter s.levels ++ (stop ∷ [])) in
       leg_answered 0 g (Some i) [] d m f h (low_level r.levels rest (9 * m + 8) (omega arith) q)
@@ -351,11 +351,11 @@ module _ (ds : List Behaviour) where
   past_leg : (g f : LegModel) (d : Bank AddressedDevice ds) (m n : ℕ) → IsLegalLeg g →
       let r = leg_result ds 0 g d in
       r.kind ≡ Done → n ≡ length r.levels + suc m →
-      up_to n (leg_begun g (Some f) 0 []) (starts d) ≡ up_to m (leg_begun f None 1 r.bytes) (starts (settled r))
+      up_to n (leg_begun g (Some f) 0 []) (starts d) ≡ up_to m (leg_begun f None 1 r.bytes) (starts (devices_after_leg r))
   past_leg g f d m n h k e =
       let r = leg_result ds 0 g d in
       let c = leg_begun f None 1 r.bytes in
-      let v = up_to m c (starts (settled r)) in
+      let v = up_to m c (starts (devices_after_leg r)) in
       last_past transfers E (suc m) n r.levels (leg_begun g (Some f) 0 []) (starts d) v e
       (leg_plays ds (Some f) (λ c u. up_to (suc m) c u ≡ v) g 0 [] d h
       (λ u q. subst (λ z. up_to (suc m) (closing z (Some f) (notes 0 r.bytes 0 z)) u ≡ v) (sym k) (ap (up_to m c) q.start)))
@@ -384,11 +384,11 @@ module _ (ds : List Behaviour) where
   second_answered g i d m j f h (Refused p) e q = absurd (too_late g d m q)
   second_answered g i d m j f h Done e q =
       let r = leg_result ds 0 g d in
-      let s = leg_result ds 1 i (settled r) in
+      let s = leg_result ds 1 i (devices_after_leg r) in
       let n = second_place g m in
       let z = (leg_long 0 g d).all e in
       let rest = map bit_letter s.levels ++ (stop ∷ []) in
-      let u = leg_answered 1 i None r.bytes (settled r) m f h
+      let u = leg_answered 1 i None r.bytes (devices_after_leg r) m f h
       (low_before_stop s.levels (9 * m + 8) (sym (past_restart r.levels rest (9 * m + 8) n (omega arith)) ∙ q)) in
       record {
         before = u.before;

@@ -92,12 +92,14 @@ module _ (ds : List Behaviour) (d : Bank AddressedDevice ds) where
       (sym a.same_devices
       ∙ (same_last transfers (ports_side ds) n (new_cursor t) (new_cursor u) (opened_ports ds d) letters ∙ b.same_devices))
 
+  -- where nobody is told
   nothing_at : (cs : List (Option (TransferResult ds))) (i : ℕ) →
       slice_index_or (map {B = Option OutcomeModel} (λ c. None) cs) i None ≡ None
   nothing_at [] i = refl
   nothing_at (c ∷ cs) zero = refl
   nothing_at (c ∷ cs) (suc i) = nothing_at cs i
 
+  -- one that is told
   told_one : (best c : TransferResult ds) (o : OutcomeModel) → outcome_if_least ds best (Some c) ≡ Some o →
       (o ≡ c.outcome) × (same_string c.letters best.letters ≡ true)
   told_one best c o h = let z = cond_some (same_string c.letters best.letters) c.outcome o h in (sym z.1, z.0)

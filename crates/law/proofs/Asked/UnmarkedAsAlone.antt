@@ -38,7 +38,7 @@ module _ (W : Script) (D : Side) where
   spelled_next (suc k) l s e =
       ap₂ (λ x j. x ++ (letter D (lead W j.live) j.side ∷ [])) (spelled_next k l s e) (slots_next W D k l s e)
 
-  -- so far as alone
+  -- after k slots the side and what was spelled are those of this cursor alone
   abbrev AsAlone : ℕ → List (Option W.Cursor) → D.S → W.Cursor → Type 0
   AsAlone k l s p = (last W D k p s ≡ (after_slots k l s).side) × (string W D k p s ≡ spelled W D l s k)
 
@@ -55,7 +55,7 @@ module _ (W : Script) (D : Side) where
             w ∙ ap (λ y. letter D x s ∷ y) h.1 ∙ sym (spelled_next k l s d)),
       )
 
-  -- one that is live later too
+  -- so it is of a contender that is live n slots on
   as_alone : (k n : ℕ) (l : List (Option W.Cursor)) (s : D.S) (i : ℕ) (p r : W.Cursor) → k ≤ n → at l i ≡ Some p →
       (after_slots n l s).over ≡ false → at (after_slots n l s).live i ≡ Some r → AsAlone k l s p
   as_alone zero n l s i p r e a o b = (refl, refl)
@@ -112,7 +112,7 @@ module _ (W : Script) where
   live_at f (o ∷ l) (out c ∷ cs) (suc i) q h a m = live_at f l cs i q h a m
   live_at f (o ∷ l) (live c p ∷ cs) (suc i) q h a m = live_at f l cs i q h.1 a m
 
-  -- as is one without a rival
+  -- and so is one without a rival: whoever is live contends
   one_live : (l : Tasks W) (cs : List (Cell W)) (j : ℕ) (p : W.Cursor) → Within W l cs →
       at (cursors W cs) j ≡ Some p → (q : W.Task) × (at l j ≡ Some q)
   one_live [] [] j p h a = cc
