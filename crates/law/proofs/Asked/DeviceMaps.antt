@@ -1,6 +1,6 @@
 -- Maps of meanings that commute with the steps of devices carry along ports, and a transfer played or carried alone.
-use Rattle.std.proofs.Common.{◌≡◌, ℕ, zero, suc, Bool, cond, ◌||◌, List, [], ◌∷◌, Option, sym, refl}
-use Rattle.std.proofs.Common.{ap, ◌∙◌, le_refl, arith}
+use Rattle.std.proofs.Common.{◌≡◌, ℕ, zero, suc, Bool, cond, ◌||◌, List, [], ◌∷◌, Option, sym, refl, ap, ◌∙◌, le_refl}
+use Rattle.std.proofs.Common.{arith}
 use Rattle.transfer.specs.declared.leg.Direction.{Direction}
 use Rattle.transfer.specs.Transfer.{TransferModel}
 use Rattle.device.specs.Device.{Behaviour}

@@ -1,6 +1,6 @@
 -- The law of what the ports asked of their devices in a turn holds over every use of a bus.
-use Rattle.std.proofs.Common.{◌≡◌, ℕ, zero, suc, ◌+◌, ◌<◌, Bool, true, false, ◌⊎◌, List, [], ◌∷◌, ◌++◌}
-use Rattle.std.proofs.Common.{length, length-append, Some, None, sym, refl, ap, ap₂, ◌∙◌, subst, inl, inr, arith}
+use Rattle.std.proofs.Common.{◌≡◌, ℕ, zero, suc, ◌+◌, ◌<◌, Bool, true, false, ◌⊎◌, List, [], ◌∷◌, ◌++◌, length}
+use Rattle.std.proofs.Common.{length-append, Some, None, sym, refl, ap, ap₂, ◌∙◌, subst, inl, inr, arith}
 use Rattle.std.proofs.lemmas.List.{get_or-append-add}
 use Rattle.std.specs.Prelude.{slice_index_or}
 use Rattle.transfer.specs.declared.outcome.OutcomeKind.TheVariants.{Done}
@@ -44,9 +44,9 @@ use Rattle.law.proofs.Bus.LawOfUse.{legal_at}
 use Rattle.law.proofs.Asked.DeviceMaps.{Morphisms, devices_at, port_addresses, device_addresses, same_addresses}
 use Rattle.law.proofs.Asked.DeviceMaps.{devices_at_unheld, ports_to, devices_to, addresses_to, played_to, spelled_to}
 use Rattle.law.proofs.Asked.DeviceMaps.{carried_devices, carried_outcome}
-use Rattle.law.proofs.Asked.NotesAreAsks.{NotingDevices, NotingPorts, lists_appended_cancel, forgetting, after_these, noted_by}
-use Rattle.law.proofs.Asked.NotesAreAsks.{length_noted, bare_unnoted, noted_again, noted_after, noted_by_after}
-use Rattle.law.proofs.Asked.NotesAreAsks.{noted_unheld, same_holds}
+use Rattle.law.proofs.Asked.NotesAreAsks.{NotingDevices, NotingPorts, lists_appended_cancel, forgetting, after_these}
+use Rattle.law.proofs.Asked.NotesAreAsks.{noted_by, length_noted, bare_unnoted, noted_again, noted_after}
+use Rattle.law.proofs.Asked.NotesAreAsks.{noted_by_after, noted_unheld, same_holds}
 use Rattle.law.proofs.Asked.NothingAskedAtRest.{nothing_at_rest}
 use Rattle.law.proofs.Asked.ToldTookItsSteps.{tells_own, tells_at_stop, devices_won}
 

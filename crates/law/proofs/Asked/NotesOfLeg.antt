@@ -1,6 +1,6 @@
 -- What a device notes of its steps in a leg: a select and what follows it if its port matches, and otherwise nothing.
 use Rattle.std.proofs.Common.{◌≡◌, ℕ, zero, suc, Bool, true, false, cond, ◌⊎◌, inl, inr, List, [], ◌∷◌, ◌++◌, length}
-use Rattle.std.proofs.Common.{append_assoc, append-nil, sym, refl, ap, ◌∙◌, subst}
+use Rattle.std.proofs.Common.{append_assoc, append-nil, sym, refl, ap, ◌∙◌, subst, arith}
 use Rattle.std.proofs.lemmas.Bool.{cond_both}
 use Rattle.transfer.specs.declared.leg.Direction.{Direction}
 use Rattle.transfer.specs.declared.leg.Direction.TheVariants.{Read}
@@ -49,27 +49,18 @@ one_step (finish ∷ ms) s h k = one_step ms s h k
 -- what is handed over in steps and in those behind them
 handed_on : (ms ls : List Step) → bytes_handed (ms ++ ls) ≡ bytes_handed ms ++ bytes_handed ls
 handed_on [] ls = refl
-handed_on (select r v ∷ ms) ls = handed_on ms ls
-handed_on (put x v ∷ ms) ls = handed_on ms ls
-handed_on (take x ∷ ms) ls = ap (λ l. x ∷ l) (handed_on ms ls)
-handed_on (finish ∷ ms) ls = handed_on ms ls
+handed_on (s ∷ ms) ls = grind (arith, handed_on ms ls)
 
 -- a further select takes nothing from the steps before the first
 before_next : (ks ms : List Step) (r : Direction) (v : Bool) → before_select (ks ++ (select r v ∷ ms)) ≡ before_select ks
 before_next [] ms r v = refl
-before_next (select q w ∷ ks) ms r v = refl
-before_next (put x w ∷ ks) ms r v = ap (λ l. put x w ∷ l) (before_next ks ms r v)
-before_next (take x ∷ ks) ms r v = ap (λ l. take x ∷ l) (before_next ks ms r v)
-before_next (finish ∷ ks) ms r v = ap (λ l. finish ∷ l) (before_next ks ms r v)
+before_next (s ∷ ks) ms r v = grind (arith, before_next ks ms r v)
 
 -- a select with no other behind it is one call more
 pub one_call : (ks ms : List Step) (r : Direction) (v : Bool) → NoSelect ms →
     steps_of_calls (ks ++ (select r v ∷ ms)) ≡ steps_of_calls ks ++ (ms ∷ [])
 one_call [] ms r v h = λ i. all_before ms h i ∷ no_calls ms h i
-one_call (select q w ∷ ks) ms r v h = λ i. before_next ks ms r v i ∷ one_call ks ms r v h i
-one_call (put x w ∷ ks) ms r v h = one_call ks ms r v h
-one_call (take x ∷ ks) ms r v h = one_call ks ms r v h
-one_call (finish ∷ ks) ms r v h = one_call ks ms r v h
+one_call (s ∷ ks) ms r v h = grind (arith, before_next ks ms r v, one_call ks ms r v h)
 
 -- from one record to another a device was called once, and handed these bytes over
 pub record CalledOnce (hs : List ℕ) (ks ls : List Step) : Type 0 where
@@ -125,8 +116,7 @@ module _ (b : Behaviour) where
   gave_if true (suc n) m = (b.take m).0 ∷ gave_if true n (b.take m).1
 
   gave_none : (t : Bool) (m : b.Meaning) → gave_if t 0 m ≡ []
-  gave_none true m = refl
-  gave_none false m = refl
+  gave_none t m = grind arith
 
 -- a device that notes its steps, before a leg that calls for this address
 module _ (a : ℕ) (b : Behaviour) (d : AddressedDevice (noting_steps b)) where

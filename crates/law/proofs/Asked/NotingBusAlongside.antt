@@ -1,6 +1,6 @@
 -- Beside each use of a bus goes one of a bus of noting devices, which have noted what was asked since the turn opened.
-use Rattle.std.proofs.Common.{◌≡◌, ℕ, zero, suc, Bool, false, cond, ◌||◌, ltb, ◌⊎◌, List, [], ◌∷◌, ◌++◌}
-use Rattle.std.proofs.Common.{append-nil, ap₂, length, Option, sym, refl, ap, ◌∙◌, subst, inl, inr, arith}
+use Rattle.std.proofs.Common.{◌≡◌, ℕ, zero, suc, Bool, false, cond, ◌||◌, ltb, ◌⊎◌, List, [], ◌∷◌, ◌++◌, append-nil}
+use Rattle.std.proofs.Common.{ap₂, length, Option, sym, refl, ap, ◌∙◌, subst, inl, inr, arith}
 use Rattle.std.proofs.lemmas.Bool.{cond_both}
 use Rattle.transfer.specs.Outcome.{OutcomeModel}
 use Rattle.device.specs.Device.{Behaviour, Step}
@@ -18,8 +18,7 @@ use Rattle.wire.specs.Wire.{signal, wire_after, busy_after}
 use Rattle.law.specs.AskedLaw.{all_noting_steps, all_steps, addresses}
 use Rattle.law.specs.Bank.{Bank, bank_map, bank_list, any_true}
 use Rattle.law.specs.Book.{Entry, entry_is_armed, entry_contending, entries_after_turn, arm_entry_at, Turn, closed}
-use Rattle.law.specs.Book.{opened, is_open, Book, book_told}
-use Rattle.law.specs.Book.{book_after}
+use Rattle.law.specs.Book.{opened, is_open, Book, book_told, book_after}
 use Rattle.law.specs.Bus.{all_pulls, HoldAnswers, ports_step, BusModel, arm_at, levels_at, after_levels, tick_at}
 use Rattle.law.specs.Bus.{told_at, is_at_rest, ClocksInRange}
 use Rattle.law.specs.Monitor.{Monitor, new_monitor, monitor_after_event, monitor_after_marks}
@@ -30,9 +29,9 @@ use Rattle.law.specs.Law.{Law}
 use Rattle.law.specs.Limits.{most_ticks}
 use Rattle.law.proofs.Asked.DeviceMaps.{pulls_to, devices_at, devices_at_to, port_addresses, device_addresses}
 use Rattle.law.proofs.Asked.DeviceMaps.{same_addresses, devices_of_idle}
-use Rattle.law.proofs.Asked.NotesAreAsks.{NotingDevices, lists_appended_assoc, length_lists_appended, forgetting, bare_devices}
-use Rattle.law.proofs.Asked.NotesAreAsks.{bare_ports, noted_by, length_noted, noted_unheld, same_holds, steps_noted}
-use Rattle.law.proofs.Asked.NotesAreAsks.{steps_bare, with_notes, new_bare}
+use Rattle.law.proofs.Asked.NotesAreAsks.{NotingDevices, lists_appended_assoc, length_lists_appended, forgetting}
+use Rattle.law.proofs.Asked.NotesAreAsks.{bare_devices, bare_ports, noted_by, length_noted, noted_unheld, same_holds}
+use Rattle.law.proofs.Asked.NotesAreAsks.{steps_noted, steps_bare, with_notes, new_bare}
 use Rattle.law.proofs.Asked.PointsOfUse.{AtRest, Standing, after_calls, then_one, law_holds, stands_holds, law_then}
 use Rattle.law.proofs.Asked.PointsOfUse.{stands_then}
 

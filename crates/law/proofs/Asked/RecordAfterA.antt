@@ -1,6 +1,6 @@
 -- After an A for the call of a leg or a byte written in it some device has noted the leg's select and its bytes so far.
-use Rattle.std.proofs.Common.{◌≡◌, ℕ, suc, ◌≤◌, true, false, List, [], ◌∷◌, ◌++◌, map, take as first}
-use Rattle.std.proofs.Common.{append_assoc, append-nil, Some, sym, ap, ◌∙◌, subst, inl, inr}
+use Rattle.std.proofs.Common.{◌≡◌, ℕ, suc, ◌≤◌, true, false, List, [], ◌∷◌, ◌++◌, map, take as first, append_assoc}
+use Rattle.std.proofs.Common.{append-nil, Some, sym, ap, ◌∙◌, subst, inl, inr}
 use Rattle.std.specs.Prelude.{slice_index_or}
 use Rattle.std.proofs.lemmas.Bool.{cond_both, or_cases}
 use Rattle.std.proofs.lemmas.List.{map-append}

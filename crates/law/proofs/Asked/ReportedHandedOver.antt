@@ -28,8 +28,8 @@ use Rattle.law.proofs.Alone.ByteLawsHold.{took, mask}
 use Rattle.law.proofs.Asked.DeviceMaps.{device_addresses}
 use Rattle.law.proofs.Asked.NotesAreAsks.{NotingDevices, NotingInLeg}
 use Rattle.law.proofs.Asked.SomebodyInAfterA.{devices_after_leg}
-use Rattle.law.proofs.Asked.NotesOfLeg.{took_keeps, one_call, Since, calls_since, gave_if, Together, together_still, gives_in}
-use Rattle.law.proofs.Asked.NotesOfLeg.{After, AfterRead, leg_noted, read_leg_noted}
+use Rattle.law.proofs.Asked.NotesOfLeg.{took_keeps, one_call, Since, calls_since, gave_if, Together, together_still}
+use Rattle.law.proofs.Asked.NotesOfLeg.{gives_in, After, AfterRead, leg_noted, read_leg_noted}
 use Rattle.law.proofs.Alone.PortsWithinByte.{joined_byte, called_for, put_to_all}
 
 pub joined_alone : (x : ℕ) → x < 256 → joint_byte (x ∷ []) ≡ x

@@ -97,16 +97,14 @@ low_there (v ∷ ls) (suc i) e = let z = low_there ls i e in omega arith
 low_level : (ls : List Bool) (us : List Letter) (i : ℕ) → i < length ls →
     slice_index_or (map bit_letter ls ++ us) i one ≡ low → slice_index_or ls i true ≡ false
 low_level [] us i h e = absurd (omega arith)
-low_level (true ∷ ls) us zero h e = cc
-low_level (false ∷ ls) us zero h e = refl
+low_level (v ∷ ls) us zero h e = grind (arith, e)
 low_level (v ∷ ls) us (suc i) h e = low_level ls us i (omega arith) e
 
 low_before_stop : (ls : List Bool) (i : ℕ) →
     slice_index_or (map bit_letter ls ++ (stop ∷ [])) i one ≡ low → slice_index_or ls i true ≡ false
 low_before_stop [] zero e = cc
 low_before_stop [] (suc i) e = cc
-low_before_stop (true ∷ ls) zero e = cc
-low_before_stop (false ∷ ls) zero e = refl
+low_before_stop (v ∷ ls) zero e = grind (arith, e)
 low_before_stop (v ∷ ls) (suc i) e = low_before_stop ls i e
 
 -- the letters behind a repeated start
