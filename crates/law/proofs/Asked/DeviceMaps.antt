@@ -227,7 +227,8 @@ module _ (bs cs : List Behaviour) (h : Morphisms bs cs) where
     abbrev there : Agrees cs t (devices_to h d) n
     there = carried_alone cs t (devices_to h d) n k (le_refl n)
 
-    pub carried_devices : (transfer_result cs t (devices_to h d)).devices ≡ devices_to h (transfer_result bs t d).devices
+    pub carried_devices : (transfer_result cs t (devices_to h d)).devices ≡
+        devices_to h (transfer_result bs t d).devices
     carried_devices = let e = (transfer_result bs t d).devices in
         idle_same cs (transfer_result cs t (devices_to h d)).devices (devices_to h e)
         (sym there.same_devices ∙ (played_to n t d ∙ (ap (ports_to h) here.same_devices ∙ sym (idle_to h e))))

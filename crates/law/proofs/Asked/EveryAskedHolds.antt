@@ -108,7 +108,8 @@ module _ (hs : List HostBehaviour) (ds : List Behaviour) where
 
     tells_too : (i : ℕ) (o : OutcomeModel) → slice_index_or (told_at hs ds x.bus) i None ≡ Some o →
         slice_index_or (book_told hs es y.book (event_at hs es y.bus)) i None ≡ Some o
-    tells_too i o h = ap (λ ts. slice_index_or ts i None) (sym both.noting_law_here.tick.tells ∙ same_told hs ds y x s) ∙ h
+    tells_too i o h = ap (λ ts. slice_index_or ts i None) (sym both.noting_law_here.tick.tells ∙ same_told hs ds y x s)
+        ∙ h
 
     -- whoever is told
     module _ (i : ℕ) (t : TransferModel) (c : Contends hs ds x i t) (o : OutcomeModel)
@@ -144,7 +145,8 @@ module _ (hs : List HostBehaviour) (ds : List Behaviour) where
       reported done k a n e z f =
           let handed = λ (os : List ℕ) (rs : List (List Step)). all_at z (handed_over a (called_before t k) os rs) in
           let reports = λ (q : OutcomeModel). slice_index_or q.bytes (read_before t k + z) 0 in
-          joined_as (handed (device_addresses ds d) (steps_alone ds t d)) (handed (addresses hs ds x) (steps_then hs ds x))
+          joined_as (handed (device_addresses ds d) (steps_alone ds t d))
+          (handed (addresses hs ds x) (steps_then hs ds x))
           (reports result.outcome) (reports o) (ap₂ handed (sym s.placed) (sym once)) (ap reports (sym own))
           (reported_alone ds d a n z f t k (ap (λ q. q.kind) (sym own) ∙ done) e)
 
@@ -204,7 +206,8 @@ module _ (hs : List HostBehaviour) (ds : List Behaviour) where
 
       spelled : then.watch.spelled ≡ hears.so_far ++ (low ∷ [])
       spelled = ap (λ w. w.spelled) (saw_too
-          ∙ (sym (saw ds x hears.turn hears.fall) ∙ ap (monitor_after hs ds x.watch x.book) hears.fall)) ∙ hears.acknowledge
+          ∙ (sym (saw ds x hears.turn hears.fall) ∙ ap (monitor_after hs ds x.watch x.book) hears.fall))
+          ∙ hears.acknowledge
 
       spelled_long : length then.watch.spelled ≡ suc place
       spelled_long = ap (λ l. length l) spelled
@@ -229,7 +232,8 @@ module _ (hs : List HostBehaviour) (ds : List Behaviour) where
           let devices : then.book.devices ≡ devices_to after_before new = ap (λ b. b.devices) same_book ∙ sym again in
           let letters : then.watch.spelled ≡ string_of new = f.letters
           ∙ (ap string_of devices ∙ spelled_to es es after_before m t new) in
-          let there : slice_index_or (string_of new) place one ≡ low = sym (ap (λ l. slice_index_or l place one) letters)
+          let there : slice_index_or (string_of new) place one ≡ low =
+          sym (ap (λ l. slice_index_or l place one) letters)
           ∙ (ap (λ l. slice_index_or l place one) spelled ∙ last_low hears.so_far place hears.place) in
           let same_side : bank_map unheld es then.bus.ports ≡ ports_to after_before side = f.ports
           ∙ (ap₂ ports_of gone devices ∙ played_to es es after_before (suc place) t new) in

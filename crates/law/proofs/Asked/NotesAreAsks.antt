@@ -23,7 +23,8 @@ pub lists_appended_assoc : (xs ys zs : List (List Step)) → length xs ≤ lengt
 lists_appended_assoc [] ys zs h = refl
 lists_appended_assoc (x ∷ xs) [] zs h = absurd (omega arith)
 lists_appended_assoc (x ∷ xs) (y ∷ ys) [] h = refl
-lists_appended_assoc (x ∷ xs) (y ∷ ys) (z ∷ zs) h = ap₂ ◌∷◌ (append_assoc x y z) (lists_appended_assoc xs ys zs (omega arith))
+lists_appended_assoc (x ∷ xs) (y ∷ ys) (z ∷ zs) h =
+    ap₂ ◌∷◌ (append_assoc x y z) (lists_appended_assoc xs ys zs (omega arith))
 
 pub length_lists_appended : (xs ys : List (List Step)) → length (lists_appended xs ys) ≡ length xs
 length_lists_appended [] ys = refl
@@ -86,7 +87,8 @@ forgetting [] = empty
 forgetting (b ∷ ds) = also (noting_steps b) b (all_noting_steps ds) ds (forget b) (forgetting ds)
 
 -- with what these devices have noted before
-abbrev pub after_these : (ds : List Behaviour) → NotingDevices ds → Morphisms (all_noting_steps ds) (all_noting_steps ds)
+abbrev pub after_these : (ds : List Behaviour) → NotingDevices ds →
+    Morphisms (all_noting_steps ds) (all_noting_steps ds)
 after_these [] d = empty
 after_these (b ∷ ds) d = let es = all_noting_steps ds in
     also (noting_steps b) (noting_steps b) es es (put_before b d.0.meaning.steps) (after_these ds d.1)

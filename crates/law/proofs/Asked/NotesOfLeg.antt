@@ -52,7 +52,8 @@ handed_on [] ls = refl
 handed_on (s ∷ ms) ls = grind (arith, handed_on ms ls)
 
 -- a further select takes nothing from the steps before the first
-before_next : (ks ms : List Step) (r : Direction) (v : Bool) → before_select (ks ++ (select r v ∷ ms)) ≡ before_select ks
+before_next : (ks ms : List Step) (r : Direction) (v : Bool) →
+    before_select (ks ++ (select r v ∷ ms)) ≡ before_select ks
 before_next [] ms r v = refl
 before_next (s ∷ ks) ms r v = grind (arith, before_next ks ms r v)
 
@@ -159,7 +160,8 @@ module _ (a : ℕ) (b : Behaviour) (d : AddressedDevice (noting_steps b)) where
       })
       (λ e. record { address = refl; since = inr (e, refl, refl); out = λ h. refl; unowed = λ h. refl })
 
-  step_in : (hs : List ℕ) (p : DeviceInLeg N) (s : Step) (m : b.Meaning) (t : Bool) → NoSelect (s ∷ []) → p.inside ≡ true →
+  step_in : (hs : List ℕ) (p : DeviceInLeg N) (s : Step) (m : b.Meaning) (t : Bool) →
+      NoSelect (s ∷ []) → p.inside ≡ true →
       InLeg hs p → InLeg (hs ++ bytes_handed (s ∷ [])) (record p { meaning = with_step b p.meaning s m; inside = t })
   step_in hs p s m t n i h = let in_leg : (matches ≡ false → ⊥) = λ e. (let z : true ≡ false = sym i ∙ h.out e in cc) in
       record {
@@ -250,7 +252,8 @@ abbrev pub gives_in : ℕ → ℕ → (b : Behaviour) → AddressedDevice (notin
 gives_in a n b d = let p = device_after_call (noting_steps b) a Read d in gave_if b p.inside n p.meaning.meaning
 
 -- a written byte, acknowledged or not, changes neither the devices nor the bytes read
-pub took_keeps : (es : List Behaviour) (P : List ℕ → Bank DeviceInLeg es → Type 0) (x : ℕ) (r s : LegResult es) (t : Bool) →
+pub took_keeps : (es : List Behaviour) (P : List ℕ → Bank DeviceInLeg es → Type 0)
+    (x : ℕ) (r s : LegResult es) (t : Bool) →
     P r.bytes r.devices → P s.bytes s.devices → let u = took es x r s t in P u.bytes u.devices
 took_keeps es P x r s true p q = p
 took_keeps es P x r s false p q = q
@@ -325,7 +328,8 @@ module _ (a : ℕ) where
         (λ b d p q. (q.0, settle_in a b d q.0 p q.1)) ds d
         (leg_result es l (record { address = a; body = g }) d).devices
         (took_keeps es (λ xs w. Together DeviceInLeg In ds d w) (call_byte a g) (body_result es l g e)
-        (leg_end es (NoAnswer (record { leg = l })) e) (any_in es e) (body_noted l g d) (called_noted (body_direction g) d))
+        (leg_end es (NoAnswer (record { leg = l })) e) (any_in es e)
+        (body_noted l g d) (called_noted (body_direction g) d))
 
     -- and after a read that is called for
     pub read_leg_noted : (c : ℕ) (d : NotingDevices ds) → let r = read_result es c (called_for es a Read d) in

@@ -203,7 +203,8 @@ module _ (hs : List HostBehaviour) (ds : List Behaviour) where
         noted_bare y.bus a
         ∙ (ap (λ u. lists_appended (noted_by ds y.bus.ports) (steps_at hs ds u)) s.bus
         ∙ (ap (λ l. lists_appended l now) s.noted
-        ∙ lists_appended_assoc ss (asked_so_far x) now (let z = long in let w = length_noted ds y.book.devices in omega arith)))
+        ∙ lists_appended_assoc ss (asked_so_far x) now
+        (let z = long in let w = length_noted ds y.book.devices in omega arith)))
 
   -- at rest nothing is noted but what the book's devices have
   noted_at_rest : (y : Use hs es) (x : Use hs ds) → y.book.turn ≡ closed → x.book.turn ≡ closed → AtRest hs es y →
@@ -272,7 +273,8 @@ module _ (hs : List HostBehaviour) (ds : List Behaviour) where
     turn = turn_is hs es y.book e ∙ ((λ i. turn_after hs (s.entries i) (s.turn i) (g i)) ∙ sym (turn_is hs ds x.book f))
 
     watch : then.watch ≡ now.watch
-    watch = λ i. monitor_after_marks (monitored hs (s.watch i) (s.turn i) (turn i) (s.entries i) (g i)) (same_marks y x s i)
+    watch = λ i. monitor_after_marks
+        (monitored hs (s.watch i) (s.turn i) (turn i) (s.entries i) (g i)) (same_marks y x s i)
 
     free : {F : List Behaviour} → (u : BusModel hs F) → event_at hs F u ≡ Stop →
         busy_after u.wire.busy (event_at hs F u) ≡ false
@@ -364,7 +366,8 @@ module _ (hs : List HostBehaviour) (ds : List Behaviour) where
 
     -- one call more on each side
     called_beside : (x : Use hs ds) (b : Beside x) (c : Call hs ds) (k : Call hs es) →
-        Alongside (use_after_call hs es (noting_use x b) k) (use_after_call hs ds x c) → Beside (use_after_call hs ds x c)
+        Alongside (use_after_call hs es (noting_use x b) k) (use_after_call hs ds x c) →
+        Beside (use_after_call hs ds x c)
     called_beside x b c k s = record {
       calls_made = b.calls_made ++ (c ∷ []);
       is = ap (λ z. use_after_call hs ds z c) b.is ∙ sym (then_one hs ds ms ps b.calls_made c);

@@ -65,7 +65,8 @@ module _ (hs : List HostBehaviour) (ds : List Behaviour) where
   so_far_alone : (x : Use hs ds) (t : TransferModel) → let z = used_as hs ds x in
       ForNow transfers (ports_side ds) z.bus z.book.side z.watch t → (x.watch.spelled ≡ []) ⊎ SoFarAlone x t
   so_far_alone x t (inl e) = inl e
-  so_far_alone x t (inr f) = inr (record { slots_gone = f.slots_gone; letters = f.letters; many = f.many; ports = f.side })
+  so_far_alone x t (inr f) =
+      inr (record { slots_gone = f.slots_gone; letters = f.letters; many = f.many; ports = f.side })
 
   standing : (x : Use hs ds) → StandsAt hs ds x → Standing x
   standing x st =

@@ -1,4 +1,4 @@
--- For a byte that a transfer carried alone reports somebody handed one over, and it has the 1 bits that all had who did.
+-- A byte that a transfer carried alone reports somebody handed over, and it has the 1 bits that all had who did.
 use Rattle.std.proofs.Common.{◌≡◌, ℕ, zero, suc, ◌+◌, ◌<◌, Bool, true, false, cond, List, [], ◌∷◌, ◌++◌, length}
 use Rattle.std.proofs.Common.{append_assoc, append-nil, Some, None, Option, sym, refl, ap, ap₂, ◌∙◌, subst, inl, inr}
 use Rattle.std.proofs.Common.{arith}
@@ -104,7 +104,8 @@ some_hands n y (b ∷ ds) e h i k =
     let later = all_at y (hands n ds e.1) in
     elim (or_cases e.0.inside (any_in (all_noting_steps ds) e.1) i) [
       | inl j ↦ gives_one b e.0.inside n y m later j h k
-      | inr j ↦ some_hands n y ds e.1 h j (none_behind (option_to_list (slice_get (gave_if b e.0.inside n m) y)) later k)
+      | inr j ↦ some_hands n y ds e.1 h j
+          (none_behind (option_to_list (slice_get (gave_if b e.0.inside n m) y)) later k)
     ]
 
 read_hands : (n y : ℕ) (ds : List Behaviour) (e : NotingInLeg ds) → y < n → any_in (all_noting_steps ds) e ≡ true →
@@ -120,7 +121,8 @@ one_handed v hs ks ls rs c cs (inl h) e g =
     let xs = steps_of_calls ks in
     let last : steps_of_calls ls ≡ xs ++ (q.steps ∷ []) = ap steps_of_calls q.noted
     ∙ one_call ks q.steps q.way q.answer q.no_select in
-    let all : steps_of_calls rs ≡ xs ++ (q.steps ∷ cs) = e ∙ (ap (λ l. l ++ cs) last ∙ append_assoc xs (q.steps ∷ []) cs) in
+    let all : steps_of_calls rs ≡ xs ++ (q.steps ∷ cs) = e
+    ∙ (ap (λ l. l ++ cs) last ∙ append_assoc xs (q.steps ∷ []) cs) in
     let n : c ≡ length xs + 0 = (let z = g h.0 in omega arith) in
     ap (λ w. cond w (bytes_handed (slice_index_or (steps_of_calls rs) c [])) []) h.0
     ∙ (ap bytes_handed ((λ i. slice_index_or (all i) (n i) []) ∙ get_or-append-add xs (q.steps ∷ cs) 0 []) ∙ q.handed)
@@ -156,11 +158,13 @@ module _ (a n : ℕ) where
   handed_first (b ∷ ds) d e z h k =
       let gives = gives_in a n b (all_nothing_noted (b ∷ ds) d).0 in
       ap₂ ◌∷◌
-      (one_handed (answers_to d.0.address a) gives [] e.0.meaning.steps z.0.meaning.steps 0 k.0.0 h.0.since k.0.1 (λ v. refl))
+      (one_handed (answers_to d.0.address a) gives [] e.0.meaning.steps z.0.meaning.steps
+      0 k.0.0 h.0.since k.0.1 (λ v. refl))
       (handed_first ds d.1 e.1 z.1 h.1 k.1)
 
   handed_second : (f : ℕ) (ds : List Behaviour) (d : Bank AddressedDevice ds) (e z : NotingDevices ds) →
-      Together AddressedDevice (After f) ds (all_nothing_noted ds d) e → Together AddressedDevice (AfterRead a n) ds e z →
+      Together AddressedDevice (After f) ds (all_nothing_noted ds d) e →
+      Together AddressedDevice (AfterRead a n) ds e z →
       handed_over a (called_in f) (device_addresses ds d) (all_steps ds z) ≡
       hands n ds (called_for (all_noting_steps ds) a Read e)
   handed_second f [] d e z h k = refl
@@ -191,7 +195,8 @@ module _ (es : List Behaviour) where
   write_bytes l (x ∷ xs) n e =
       let w = put_to_all es x e in
       let s = leg_end es (Refused (record { leg = l; byte = n })) w in
-      took_keeps es (λ ys d. ys ≡ []) x (write_result es l xs (suc n) w) s (any_in es w) (write_bytes l xs (suc n) w) refl
+      took_keeps es (λ ys d. ys ≡ []) x (write_result es l xs (suc n) w) s (any_in es w)
+      (write_bytes l xs (suc n) w) refl
 
   body_length : (l : ℕ) (g : BodyModel) (e : Bank DeviceInLeg es) → length (body_result es l g e).bytes ≡ body_reads g
   body_length l (writes xs) e = ap length (write_bytes l xs 0 e)
@@ -252,7 +257,8 @@ module _ (ds : List Behaviour) (d : Bank AddressedDevice ds) (a n y : ℕ) (h : 
       let r = leg_result rs 0 w new in
       let q = leg_result rs 1 (read_leg a n) (devices_after_leg rs r) in
       r.kind ≡ Done → q.kind ≡ Done →
-      JoinedFrom (by (called_in w.address) (devices_after_leg rs q)) (slice_index_or (r.bytes ++ q.bytes) (body_reads w.body + y) 0)
+      JoinedFrom (by (called_in w.address) (devices_after_leg rs q))
+      (slice_index_or (r.bytes ++ q.bytes) (body_reads w.body + y) 0)
   in_second w k j =
       let r = leg_result rs 0 w new in
       let s = devices_after_leg rs r in
@@ -269,7 +275,8 @@ module _ (ds : List Behaviour) (d : Bank AddressedDevice ds) (a n y : ℕ) (h : 
       ∙ (get_or-append-add r.bytes q.bytes y 0 ∙ ap (λ l. slice_index_or l y 0) u.0)) in
       joined_as (all_at y (hands n ds e)) (by (called_in w.address) (devices_after_leg rs q))
       (slice_index_or (read_result rs n e).bytes y 0) (slice_index_or all (body_reads w.body + y) 0)
-      (ap (all_at y) (sym (handed_second a n w.address ds d s (devices_after_leg rs q) (leg_noted w.address ds 0 w.body new) f)))
+      (ap (all_at y) (sym (handed_second a n w.address ds d s (devices_after_leg rs q)
+      (leg_noted w.address ds 0 w.body new) f)))
       bytes (read_hands n y ds e h u.2)
 
   first_told : (o : Option LegModel) → let r = leg_result rs 0 (read_leg a n) new in (k : OutcomeKind) → r.kind ≡ k →
@@ -278,7 +285,8 @@ module _ (ds : List Behaviour) (d : Bank AddressedDevice ds) (a n y : ℕ) (h : 
   first_told None Done e g =
       let r = leg_result rs 0 (read_leg a n) new in
       let z = named_done rs r.kind r.bytes g in
-      subst (λ l. JoinedFrom (by (λ o. 0) (devices_after_leg rs r)) (slice_index_or l y 0)) (sym (z.1 ∙ sym (append-nil r.bytes)))
+      subst (λ l. JoinedFrom (by (λ o. 0) (devices_after_leg rs r)) (slice_index_or l y 0))
+      (sym (z.1 ∙ sym (append-nil r.bytes)))
       (in_first [] (devices_after_leg rs r) z.0 (no_calls_more ds (devices_after_leg rs r)))
   first_told (Some w) Done e g =
       let r = leg_result rs 0 (read_leg a n) new in
@@ -286,7 +294,8 @@ module _ (ds : List Behaviour) (d : Bank AddressedDevice ds) (a n y : ℕ) (h : 
       let q = leg_result rs 1 w s in
       let z = named_done rs q.kind (r.bytes ++ q.bytes) g in
       subst (λ l. JoinedFrom (by (λ o. 0) (devices_after_leg rs q)) (slice_index_or l y 0)) (sym z.1)
-      (in_first q.bytes (devices_after_leg rs q) e (leg_more w.address ds s (devices_after_leg rs q) (leg_noted w.address ds 1 w.body s)))
+      (in_first q.bytes (devices_after_leg rs q) e
+      (leg_more w.address ds s (devices_after_leg rs q) (leg_noted w.address ds 1 w.body s)))
   first_told o (NoAnswer p) e g =
       let r = leg_result rs 0 (read_leg a n) new in let z = sym e ∙ (named_done rs r.kind r.bytes g).0 in cc
   first_told o (Refused p) e g =
@@ -300,7 +309,8 @@ module _ (ds : List Behaviour) (d : Bank AddressedDevice ds) (a n y : ℕ) (h : 
       let r = leg_result rs 0 w new in
       let q = leg_result rs 1 (read_leg a n) (devices_after_leg rs r) in
       let z = named_done rs q.kind (r.bytes ++ q.bytes) g in
-      subst (λ l. JoinedFrom (by (called_in w.address) (devices_after_leg rs q)) (slice_index_or l (body_reads w.body + y) 0))
+      subst (λ l. JoinedFrom (by (called_in w.address) (devices_after_leg rs q))
+      (slice_index_or l (body_reads w.body + y) 0))
       (sym z.1) (in_second w e z.0)
   second_told w (NoAnswer p) e g =
       let r = leg_result rs 0 w new in let z = sym e ∙ (named_done rs r.kind r.bytes g).0 in cc

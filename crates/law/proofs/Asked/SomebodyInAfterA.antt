@@ -161,7 +161,8 @@ module _ (ds : List Behaviour) where
   body_long l (writes xs) e = write_long l xs 0 e
   body_long l (reads n) e = read_long n e
 
-  leg_long : (l : ℕ) (g : LegModel) (d : Bank AddressedDevice ds) → Long (9 * suc (body_size g.body)) (leg_result ds l g d)
+  leg_long : (l : ℕ) (g : LegModel) (d : Bank AddressedDevice ds) →
+      Long (9 * suc (body_size g.body)) (leg_result ds l g d)
   leg_long l g d =
       let e = called_for ds g.address (body_direction g.body) d in
       let s = leg_end ds (NoAnswer (record { leg = l })) e in
@@ -349,14 +350,16 @@ module _ (ds : List Behaviour) where
   past_leg : (g f : LegModel) (d : Bank AddressedDevice ds) (m n : ℕ) → IsLegalLeg g →
       let r = leg_result ds 0 g d in
       r.kind ≡ Done → n ≡ length r.levels + suc m →
-      up_to n (leg_begun g (Some f) 0 []) (starts d) ≡ up_to m (leg_begun f None 1 r.bytes) (starts (devices_after_leg r))
+      up_to n (leg_begun g (Some f) 0 []) (starts d) ≡
+      up_to m (leg_begun f None 1 r.bytes) (starts (devices_after_leg r))
   past_leg g f d m n h k e =
       let r = leg_result ds 0 g d in
       let c = leg_begun f None 1 r.bytes in
       let v = up_to m c (starts (devices_after_leg r)) in
       last_past transfers E (suc m) n r.levels (leg_begun g (Some f) 0 []) (starts d) v e
       (leg_plays ds (Some f) (λ c u. up_to (suc m) c u ≡ v) g 0 [] d h
-      (λ u q. subst (λ z. up_to (suc m) (closing z (Some f) (notes 0 r.bytes 0 z)) u ≡ v) (sym k) (ap (up_to m c) q.start)))
+      (λ u q. subst (λ z. up_to (suc m) (closing z (Some f) (notes 0 r.bytes 0 z)) u ≡ v) (sym k)
+      (ap (up_to m c) q.start)))
 
   -- where the acknowledge stands in leg 1 behind leg g
   abbrev second_place : LegModel → ℕ → ℕ
@@ -423,5 +426,6 @@ module _ (ds : List Behaviour) where
       IsLegal t → leg_of t k ≡ Some g → m ≤ body_writes g.body →
       slice_index_or (transfer_result ds t d).letters (acknowledge_at t k m) one ≡ low →
       HasAnswered (acknowledge_at t k m) (new_cursor t) (opened_ports ds d) g m
-  answered t d k m g l e h q = subst (λ s. HasAnswered (acknowledge_at t k m) (new_cursor t) s g m) (sym (opened_is ds d))
+  answered t d k m g l e h q =
+      subst (λ s. HasAnswered (acknowledge_at t k m) (new_cursor t) s g m) (sym (opened_is ds d))
       (transfer_answered t d k m g l e h q)

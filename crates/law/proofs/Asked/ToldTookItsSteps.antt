@@ -90,7 +90,8 @@ module _ (ds : List Behaviour) (d : Bank AddressedDevice ds) where
       let letters = a.same_letters ∙ (same_of (alone t).letters (alone u).letters h ∙ sym b.same_letters) in
       idle_same ds (alone t).devices (alone u).devices
       (sym a.same_devices
-      ∙ (same_last transfers (ports_side ds) n (new_cursor t) (new_cursor u) (opened_ports ds d) letters ∙ b.same_devices))
+      ∙ (same_last transfers (ports_side ds) n (new_cursor t) (new_cursor u) (opened_ports ds d) letters
+      ∙ b.same_devices))
 
   -- where nobody is told
   nothing_at : (cs : List (Option (TransferResult ds))) (i : ℕ) →
@@ -112,7 +113,8 @@ module _ (ds : List Behaviour) (d : Bank AddressedDevice ds) where
     pub same : same_string c.letters best.letters ≡ true
 
   won : (q : Option (TransferResult ds)) (cs : List (Option (TransferResult ds))) (i : ℕ) (c : TransferResult ds)
-      (o : OutcomeModel) → slice_index_or cs i None ≡ Some c → slice_index_or (outcomes_of_turn ds q cs) i None ≡ Some o →
+      (o : OutcomeModel) → slice_index_or cs i None ≡ Some c →
+      slice_index_or (outcomes_of_turn ds q cs) i None ≡ Some o →
       Won q c o
   won None cs i c o e h = let z = sym (nothing_at cs i) ∙ h in cc
   won (Some best) [] i c o e h = cc

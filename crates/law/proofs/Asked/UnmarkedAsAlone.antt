@@ -82,7 +82,8 @@ module _ (W : Script) (D : Side) where
           nx : after_slots (suc n) l s ≡ after_slots n l1 s1
           nx = slots_next W D n l s d
 
-          kept : (v : Bool) → eqb (rank (lead W l)) (rank (W.symbol p)) ≡ v → at l1 i ≡ cond v (Some (W.next p bit)) None
+          kept : (v : Bool) → eqb (rank (lead W l)) (rank (W.symbol p)) ≡ v →
+              at l1 i ≡ cond v (Some (W.next p bit)) None
           kept v f = at_keep W (lead W l) bit l i
               ∙ ap (keep W (lead W l) bit) a
               ∙ ap (λ v. cond v (Some (W.next p bit)) None) f
@@ -101,7 +102,8 @@ module _ (W : Script) (D : Side) where
 module _ (W : Script) where
   -- a contender that was never marked is live
   live_at : (f : Symbol → Bool) (l : Tasks W) (cs : List (Cell W)) (i : ℕ) (q : W.Task) → Within W l cs →
-      at l i ≡ Some q → slice_index_or (marked W f l cs) i false ≡ false → (p : W.Cursor) × (at (cursors W cs) i ≡ Some p)
+      at l i ≡ Some q → slice_index_or (marked W f l cs) i false ≡ false →
+      (p : W.Cursor) × (at (cursors W cs) i ≡ Some p)
   live_at f [] cs i q h a m = cc
   live_at f (o ∷ l) [] i q h a m = elim h [ ]
   live_at f (o ∷ l) (out c ∷ cs) zero q h a m =
@@ -172,7 +174,8 @@ module _ (W : Script) (D : Side) (left : W.Cursor → ℕ) (Alike : W.Cursor →
       (ps : List (Option W.Cursor)) (s : D.S) (p : W.Cursor) →
       let s1 = D.begin s0 in
       k ≤ n → Run W D left Alike (begins W l) s1 n r ps s → at l i ≡ Some x → at ps i ≡ Some p →
-      w.spelled ≡ spelled W D (begins W l) s1 k → u.side ≡ (after_slots W D k (begins W l) s1).side → ForNow W D u s0 w x
+      w.spelled ≡ spelled W D (begins W l) s1 k → u.side ≡ (after_slots W D k (begins W l) s1).side →
+      ForNow W D u s0 w x
   so_far u s0 w l i x k n r ps s p e q here c b d =
       let s1 = D.begin s0 in
       let a = as_alone W D k n (begins W l) s1 i (W.begin x) p e (begun_at W l i x here)
