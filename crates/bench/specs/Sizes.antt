@@ -8,7 +8,9 @@ use Rattle.law.specs.Bank.{Bank}
 use Rattle.law.specs.Bus.{BusModel, new_bus}
 use Rattle.master.specs.Master.{HostedMaster}
 use Rattle.port.specs.Port.{PortModel, new_port}
-use Rattle.bench.specs.Counting.{WritesForEver, Works}
+use Rattle.support.specs.Transfer.{registers_address}
+use Rattle.bench.specs.Counting.{Works}
+use Rattle.bench.specs.Writer.{WritesForEver}
 
 abbrev pub is_masters : ℕ → Bool
 is_masters n = n == 1 || n == 2 || n == 4 || n == 8
@@ -25,10 +27,10 @@ devices n = replicate n register_file
 
 -- masters that write to the first register file
 abbrev pub WritesQuick : HostedMaster poll_host → Type 0
-WritesQuick x = WritesForEver 1 1 80 18 x
+WritesQuick x = WritesForEver 1 1 registers_address 0x12 x
 
 abbrev pub WritesSlow : HostedMaster poll_host → Type 0
-WritesSlow x = WritesForEver 2 1 80 16 x
+WritesSlow x = WritesForEver 2 1 registers_address 0x10 x
 
 -- by turns a quick and a slow one
 abbrev pub AtOdds : Bool → (n : ℕ) → Bank HostedMaster (hosts n) → Type 0
@@ -44,14 +46,20 @@ abbrev pub files : ℕ → (n : ℕ) → Bank PortModel (devices n)
 files address zero = tt
 files address (suc n) = (file_at address, files (suc address) n)
 
--- the outcomes that so many ticks told, with these masters and so many register files; none where there is no bus of this size
-abbrev pub MeasuredWith : (hs : List HostBehaviour) → Bank HostedMaster hs → ℕ → ℕ → ℕ → Option ℕ → Type 0
+-- the outcomes that so many ticks told, with these masters and so many register files; none where there is no bus of this
+-- size
+abbrev pub MeasuredWith : (hs : List HostBehaviour) → Bank HostedMaster hs → ℕ → ℕ → ℕ →
+    Option ℕ → Type 0
 MeasuredWith hs b masters ports ticks r =
     (is_ports ports ≡ false → r ≡ None) ×
     (is_ports ports ≡ true → (v : BusModel hs (devices ports)) × (count : ℕ) ×
-    Works hs (devices ports) masters ticks (new_bus hs (devices ports) b (files 80 ports)) count v × (r ≡ Some count))
+    Works hs (devices ports) masters ticks
+    (new_bus hs (devices ports) b (files registers_address ports)) count v ×
+    (r ≡ Some count))
 
+-- the same with so many masters at odds
 abbrev pub Measured : ℕ → ℕ → ℕ → Option ℕ → Type 0
 Measured masters ports ticks r =
     (is_masters masters ≡ false → r ≡ None) ×
-    (is_masters masters ≡ true → (b : Bank HostedMaster (hosts masters)) × AtOdds true masters b × MeasuredWith (hosts masters) b masters ports ticks r)
+    (is_masters masters ≡ true → (b : Bank HostedMaster (hosts masters)) ×
+    AtOdds true masters b × MeasuredWith (hosts masters) b masters ports ticks r)

@@ -1,6 +1,6 @@
 -- The once host: one transfer, wanted until any outcome of it is told.
 use Rattle.std.specs.Option.{option_map}
-use Rattle.std.specs.Prelude.{Some, None, Option}
+use Rattle.std.specs.Prelude.{if◌then◌else◌, Some, None, Option, is_some}
 use Rattle.transfer.specs.declared.draft.Transfer.{Transfer}
 use Rattle.transfer.specs.Outcome.{OutcomeModel, outcome_model}
 use Rattle.host.specs.Host.{HostBehaviour}
@@ -10,17 +10,12 @@ pub record OnceModel : Type 0 where
   pub transfer : Transfer
   pub last : Option OutcomeModel
 
--- nothing any more once there is an outcome
-abbrev pub wanted_until : Transfer → Option OutcomeModel → Option Transfer
-wanted_until t None = Some t
-wanted_until t (Some o) = None
+abbrev pub once_model : Once → OnceModel
+once_model h = record { transfer = h.transfer; last = option_map outcome_model h.last }
 
 abbrev pub once : HostBehaviour
 once = record {
   Meaning = OnceModel;
-  want = λ m. wanted_until m.transfer m.last;
-  told = λ m o. record { transfer = m.transfer; last = Some o };
+  want = λ m. if is_some m.last then None else Some m.transfer;
+  told = λ m o. record m { last = Some o };
 }
-
-abbrev pub once_model : Once → OnceModel
-once_model h = record { transfer = h.transfer; last = option_map outcome_model h.last }

@@ -1,16 +1,19 @@
 // A device that counts the bytes taken from it.
-ghost use Rattle.std.specs.Prelude.{◌≡◌};
-ghost use Rattle.custom.specs.Counter.{counter_model, counter};
-
 use device::Device;
 use transfer::Direction;
 
-#[derive(Drop)]
+/// It is read and not written. Each byte read is how many were read before, modulo 256, and before
+/// each it holds the clock for 0 to 3 ticks.
+#[derive(Drop, Debug)]
 pub struct Counter {
     takes: u8,
 }
 
 impl Counter {
+    ghost use Rattle.std.specs.Prelude.{◌≡◌};
+    ghost use Rattle.custom.specs.Counter.{counter_model};
+
+    /// No byte was taken.
     pub fn new() -> Counter
         ensures { counter_model result ≡ 0 }
     {
@@ -26,6 +29,8 @@ impl Counter {
 }
 
 impl Device for Counter {
+    ghost use Rattle.custom.specs.Counter.{counter_model, counter};
+
     ghost behaviour = { counter };
 
     ghost meaning = { counter_model };

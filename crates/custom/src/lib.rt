@@ -1,4 +1,6 @@
-// A device and a host of somebody else's, as the example for new makes.
+//! A device and a host as somebody else would write them: the example for new implementations.
+//!
+//! Neither needs a change or a proof elsewhere; the bus takes any implementation of the two traits.
 #![tactic(auto)]
 
 mod counter;

@@ -1,19 +1,21 @@
 // A host that wants one transfer, once.
-ghost use Rattle.std.specs.Prelude.{◌≡◌, None};
-ghost use Rattle.std.specs.Option.{option_map};
-ghost use Rattle.transfer.specs.Outcome.{outcome_model};
-ghost use Rattle.custom.specs.Once.{once_model, once};
-
 use host::Host;
 use transfer::{Outcome, Transfer};
 
-#[derive(Drop)]
+/// It wants its transfer until it is told any outcome of it.
+#[derive(Drop, Debug)]
 pub struct Once {
     transfer: Transfer,
     last: Option<Outcome>,
 }
 
 impl Once {
+    ghost use Rattle.std.specs.Option.{option_map};
+    ghost use Rattle.std.specs.Prelude.{◌≡◌, None};
+    ghost use Rattle.transfer.specs.Outcome.{outcome_model};
+    ghost use Rattle.custom.specs.Once.{once_model};
+
+    /// It was told no outcome.
     pub fn new(transfer: Transfer) -> Once
         ensures { once_model result ≡ record { transfer = transfer; last = None } }
     {
@@ -23,14 +25,14 @@ impl Once {
         }
     }
 
-    /// The transfer that it wants once, also when it was told its outcome.
+    /// The transfer that it wants, also when it was told its outcome.
     pub fn transfer(&self) -> Transfer
         ensures { result ≡ (once_model self.now).transfer }
     {
         self.transfer
     }
 
-    // Each make has its own: a trait for it would be longer than this.
+    /// The last outcome that it was told, if any.
     pub fn last(&self) -> Option<Outcome>
         ensures { option_map outcome_model result ≡ (once_model self.now).last }
     {
@@ -39,6 +41,8 @@ impl Once {
 }
 
 impl Host for Once {
+    ghost use Rattle.custom.specs.Once.{once_model, once};
+
     ghost behaviour = { once };
 
     ghost meaning = { once_model };

@@ -1,4 +1,4 @@
-// Each make, driven by hand.
+// The device and the host, driven by hand.
 use crate::counter::Counter;
 use crate::once::Once;
 use device::Device;

@@ -17,7 +17,7 @@ selection_after_put Open true = Written
 selection_after_put Open false = Open
 selection_after_put Written v = Written
 
--- a put got yes in it
+-- whether a put got yes in it
 abbrev pub is_written : Selection → Bool
 is_written Closed = false
 is_written Open = false

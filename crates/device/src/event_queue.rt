@@ -1,20 +1,25 @@
 // A queue of up to 8 bytes, each read once.
-ghost use Rattle.std.specs.Prelude.{◌≡◌, []};
-ghost use Rattle.transfer.specs.Fifo.{fifo_after_fill};
-ghost use Rattle.transfer.specs.Refusal.{answer};
-ghost use Rattle.device.specs.EventQueue.{queue_model, event_queue};
-
 use crate::device::Device;
-use transfer::Fifo;
-use transfer::{Direction, Refusal};
+use transfer::{Direction, Fifo, Refusal};
 
+// What an empty queue gives: all bits high, as on a bus where nobody pulls SDA.
+const NO_BYTE: u8 = 0xFF;
+
+/// Up to 8 bytes, which a master reads, the oldest first. Each read removes one. It answers no
+/// select for writing, and one for reading exactly if a byte is left; one read beyond the last gets
+/// 0xFF.
 #[derive(Drop)]
 pub struct EventQueue {
     bytes: Fifo<u8>,
 }
 
 impl EventQueue {
-    // An empty queue.
+    ghost use Rattle.std.specs.Prelude.{◌≡◌, []};
+    ghost use Rattle.transfer.specs.Fifo.{fifo_after_fill};
+    ghost use Rattle.transfer.specs.Refusal.{answer};
+    ghost use Rattle.device.specs.EventQueue.{queue_model};
+
+    /// An empty queue.
     pub fn new() -> EventQueue
         ensures { queue_model result ≡ [] }
     {
@@ -23,9 +28,11 @@ impl EventQueue {
         }
     }
 
-    // Starts anew with these bytes, the first the oldest. Too many are refused, and change nothing.
+    /// Starts anew with these bytes, the first the oldest. More than 8 are refused, and change
+    /// nothing.
     pub fn fill(&mut self, bytes: &[u8]) -> Result<(), Refusal>
-        ensures { (answer (λ u. u) result, queue_model self.new) ≡ fifo_after_fill bytes.now (queue_model self.old) }
+        ensures { (answer (λ u. u) result, queue_model self.new)
+            ≡ fifo_after_fill bytes.now (queue_model self.old) }
     {
         self.bytes.fill(bytes)
     }
@@ -39,6 +46,8 @@ impl EventQueue {
 }
 
 impl Device for EventQueue {
+    ghost use Rattle.device.specs.EventQueue.{queue_model, event_queue};
+
     ghost behaviour = { event_queue };
 
     ghost meaning = { queue_model };
@@ -52,7 +61,7 @@ impl Device for EventQueue {
     }
 
     fn take(&mut self) -> u8 {
-        let oldest = self.bytes.first().unwrap_or(0xFF);
+        let oldest = self.bytes.first().unwrap_or(NO_BYTE);
         self.bytes.advance();
         oldest
     }

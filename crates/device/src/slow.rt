@@ -1,24 +1,27 @@
 // A layer that holds the clock for at least its own number of ticks.
-ghost use Rattle.std.specs.Prelude.{◌≡◌};
-ghost use Rattle.device.specs.Slow.{slow_over, slow_model, SlowStepsTo, SlowHoldsTo};
-
 use crate::device::Device;
 use transfer::Direction;
 
-#[derive(Drop)]
+/// A device that holds the clock for at least `number` ticks, and longer where the device below
+/// does. All else goes to that device.
+#[derive(Drop, Debug)]
 pub struct Slow<D> {
     number: u8,
     device: D,
 }
 
 impl<D: Device> Slow<D> {
+    ghost use Rattle.std.specs.Prelude.{◌≡◌};
+    ghost use Rattle.device.specs.Slow.{slow_model};
+
+    /// Over this device, as it stands.
     pub fn new(number: u8, device: D) -> Slow<D>
         ensures { result ≡ record { number = number; device = device } }
     {
         Slow { number, device }
     }
 
-    /// For how many ticks it holds the clock at least.
+    /// For how many ticks it holds the clock at least, from 0 to 255.
     pub fn number(&self) -> u8
         ensures { result ≡ (slow_model D.Device.behaviour D.Device.meaning self.now).number }
     {
@@ -32,7 +35,7 @@ impl<D: Device> Slow<D> {
         &self.device
     }
 
-    // The device below, as it stands.
+    /// The device below, as it stands.
     pub fn into_device(self) -> D
         ensures { result ≡ self.device }
     {
@@ -42,6 +45,8 @@ impl<D: Device> Slow<D> {
 }
 
 impl<D: Device> Device for Slow<D> {
+    ghost use Rattle.device.specs.Slow.{slow_over, slow_model, SlowStepsTo, SlowHoldsTo};
+
     ghost behaviour = { slow_over D.Device.behaviour };
 
     ghost meaning = { slow_model D.Device.behaviour D.Device.meaning };

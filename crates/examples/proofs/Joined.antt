@@ -19,14 +19,16 @@ pub told_last : (u v w : BusModel reader two_queues) (n : ℕ) (a : Result RunMo
     last ≡ w.masters.0.meaning.last → last ≡ (queues_after_run most_ticks_of_turn u).masters.0.meaning.last
 told_last u v w n a last arms runs e is =
     let there : w ≡ (run_at reader two_queues v n (λ k. no_holds two_queues)).1 = ap (λ p. p.1) runs in
-    let from : (run_at reader two_queues v n (λ k. no_holds two_queues)).1 ≡ (run_at reader two_queues (all_armed reader two_queues 1 u) n (λ k. no_holds two_queues)).1 =
+    let from : (run_at reader two_queues v n (λ k. no_holds two_queues)).1 ≡
+    (run_at reader two_queues (all_armed reader two_queues 1 u) n (λ k. no_holds two_queues)).1 =
     ap (λ x. (run_at reader two_queues x n (λ k. no_holds two_queues)).1) arms in
     is ∙ ap (λ x. x.masters.0.meaning.last) (there ∙ (from ∙ (ran n u ∙ ap (λ k. queues_after_run k u) e)))
 
 pub never : NeverHold two_queues
 never = ((λ meaning h e. e), ((λ meaning h e. e), tt))
 
-pub line_is : (start a b c : List ℕ) (o : OutcomeModel) (last : Option OutcomeModel) → Some o ≡ last → a ≡ start ++ codes "joined queues: " →
+pub line_is : (start a b c : List ℕ) (o : OutcomeModel) (last : Option OutcomeModel) → Some o ≡ last →
+    a ≡ start ++ codes "joined queues: " →
     b ≡ a ++ outcome_text o → c ≡ b ++ codes "\n" → c ≡ start ++ joined_line last
 line_is start a b c o last e first second third = rw (← e, third, second, first) (simp append_assoc)
 

@@ -1,17 +1,17 @@
 -- The clocks of the examples, and the bus of two queues before it is armed.
-use Rattle.std.specs.Prelude.{◌≡◌, ℕ, List, [], ◌∷◌, None}
+use Rattle.std.specs.Prelude.{◌≡◌, ℕ, List, [], ◌∷◌}
 use Rattle.transfer.specs.declared.draft.Transfer.{Transfer}
-use Rattle.transfer.specs.Transfer.{TransferModel, transfer_model}
-use Rattle.transfer.specs.Leg.{reads}
+use Rattle.transfer.specs.Transfer.{transfer_model}
 use Rattle.device.specs.Device.{Behaviour}
 use Rattle.device.specs.EventQueue.{event_queue}
 use Rattle.host.specs.Host.{HostBehaviour}
 use Rattle.host.specs.ListHost.{ListHostModel, list_host}
-use Rattle.law.specs.Bus.{BusModel, new_bus}
-use Rattle.master.specs.MasterState.{new_master}
-use Rattle.master.specs.Script.{transfers}
-use Rattle.support.specs.declared.pair.Clocks.{Clocks}
+use Rattle.master.specs.Master.{new_hosted_master}
 use Rattle.port.specs.Port.{new_port}
+use Rattle.law.specs.Bus.{BusModel, new_bus}
+use Rattle.support.specs.declared.pair.Clocks.{Clocks}
+use Rattle.support.specs.Filled.{new_list}
+use Rattle.support.specs.Transfer.{events_address, event_read}
 
 -- the low and the high count of each master
 abbrev pub counts : Clocks → (ℕ × ℕ) × (ℕ × ℕ)
@@ -26,15 +26,13 @@ reader = list_host ∷ []
 abbrev pub two_queues : List Behaviour
 two_queues = event_queue ∷ event_queue ∷ []
 
--- a read of one byte
-abbrev pub event_read : TransferModel
-event_read = record { first = record { address = 81; body = reads 1 }; second = None }
-
--- clock counts 1 and 1, and a byte in each queue, both at address 81
-abbrev pub queue_bus : ListHostModel → BusModel reader two_queues
-queue_bus m =
-    new_bus reader two_queues (record { master = new_master transfers 1 1; meaning = m }, tt)
-    (new_port event_queue 81 (0x3C ∷ []), (new_port event_queue 81 (0x5A ∷ []), tt))
+-- clock counts 1 and 1, and a byte in each queue, both at one address
+abbrev pub queue_bus_of : ListHostModel → BusModel reader two_queues
+queue_bus_of m =
+    let first = new_port event_queue events_address (0x3C ∷ []) in
+    let second = new_port event_queue events_address (0x5A ∷ []) in
+    new_bus reader two_queues (new_hosted_master list_host 1 1 m, tt) (first, (second, tt))
 
 abbrev pub IsQueues : BusModel reader two_queues → Type 0
-IsQueues u = (t : Transfer) × (transfer_model t ≡ event_read) × (u ≡ queue_bus (record { rest = t ∷ []; last = None }))
+IsQueues u =
+    (t : Transfer) × (transfer_model t ≡ event_read) × (u ≡ queue_bus_of (new_list (t ∷ [])))

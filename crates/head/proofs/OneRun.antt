@@ -13,14 +13,18 @@ use Rattle.head.specs.Setup.{head_hosts, head_devices, IsHead}
 pub one_hold : OneHold head_devices
 one_hold = (
   (λ m h k first second. first ∙ sym second),
-  ((λ m h k first second. first.2 ∙ (ap (max m.number) (first.1 ∙ sym second.1) ∙ sym second.2)), ((λ m h k first second. first ∙ sym second), tt)),
+  (
+    (λ m h k first second. first.2 ∙ (ap (max m.number) (first.1 ∙ sym second.1) ∙ sym second.2)),
+    ((λ m h k first second. first ∙ sym second), tt),
+  ),
 )
 
 -- the number of the slow layer is 5
 abbrev HoldsFive : BusModel head_hosts head_devices → Type 0
 HoldsFive u = u.ports.1.0.meaning.number ≡ 5
 
-still_five : (u : BusModel head_hosts head_devices) (h : HoldAnswers head_devices) → HoldsFive u → HoldsFive (tick_at head_hosts head_devices u h).1
+still_five : (u : BusModel head_hosts head_devices) (h : HoldAnswers head_devices) → HoldsFive u →
+    HoldsFive (tick_at head_hosts head_devices u h).1
 still_five u h five =
     kept_on (slow_over event_queue) (λ m. m.number ≡ 5) (λ m d e. e) (λ m x e. e) (λ m e. e) (λ m e. e) u.ports.1.0 five h.1.0.0 _ _
 

@@ -12,7 +12,8 @@ use Rattle.head.specs.Setup.{head_hosts, head_devices, IsHead}
 -- what master n was told last, if it was told anything
 abbrev pub told_line : ℕ → Option OutcomeModel → List ℕ
 told_line n None = []
-told_line n (Some o) = codes "master " ++ (decimal n ++ (codes ": " ++ (outcome_text o ++ codes "\n")))
+told_line n (Some o) =
+    codes "master " ++ (decimal n ++ (codes ": " ++ (outcome_text o ++ codes "\n")))
 
 abbrev pub registers_line : List ℕ → List ℕ
 registers_line xs = codes "registers:" ++ (bytes_text xs ++ codes "\n")
@@ -20,16 +21,22 @@ registers_line xs = codes "registers:" ++ (bytes_text xs ++ codes "\n")
 -- the last outcome of each master, and then the registers
 abbrev pub end_text : BusModel head_hosts head_devices → List ℕ
 end_text u =
-    told_line 0 u.masters.0.meaning.last
-    ++ (told_line 1 u.masters.1.0.meaning.last ++ (told_line 2 u.masters.1.1.0.meaning.last ++ registers_line u.ports.0.meaning.below.bytes))
+    told_line 0 u.masters.0.meaning.last ++
+    (told_line 1 u.masters.1.0.meaning.last ++
+    (told_line 2 u.masters.1.1.0.meaning.last ++
+    registers_line u.ports.0.meaning.below.bytes))
 
+-- far more than the lists and the polls of the head take
 abbrev pub most_ticks : ℕ
 most_ticks = 16 * most_ticks_of_turn
 
-module _ {W : Type 0} (takes : W → List ℕ → W → Type 0) (fails : W → List ℕ → Error → W → Type 0) where
+module _ {W : Type 0} (takes : W → List ℕ → W → Type 0)
+    (fails : W → List ℕ → Error → W → Type 0) where
   -- the bus has one run, whatever its devices answer, and the lines of it and of its end are written, or a first part of them
   -- where a write fails
   abbrev pub PrintsHead : W → Result (Unit {0}) Error → W → Type 0
   PrintsHead out r after =
-      (u : BusModel head_hosts head_devices) × IsHead u × (text : List ℕ) × (end : Listened head_hosts head_devices)
-      × OnlyRun head_hosts head_devices 3 most_ticks u text end × Puts takes fails (text ++ end_text end.bus) out r after
+      (u : BusModel head_hosts head_devices) × IsHead u ×
+      (text : List ℕ) × (end : Listened head_hosts head_devices) ×
+      OnlyRun head_hosts head_devices 3 most_ticks u text end ×
+      Puts takes fails (text ++ end_text end.bus) out r after

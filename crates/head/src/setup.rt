@@ -4,26 +4,30 @@ ghost use Rattle.device.specs.EventQueue.{event_queue, queue_model};
 ghost use Rattle.device.specs.Slow.{slow_model};
 ghost use Rattle.exchange.specs.Bus.{bus_model};
 ghost use Rattle.master.specs.Master.{hosted_master};
-ghost use Rattle.head.specs.Setup.{log_write, log_read, event_read, service_write, probe_write, slow_queue, ListsAt, PollsAt, IsHead};
+ghost use Rattle.support.specs.Transfer.{event_read};
+ghost use Rattle.head.specs.Setup.{log_write, log_read, service_write, probe_write, slow_queue, ListsAt, PollsAt, IsHead};
 
 use device::{Busy, EventQueue, RegisterFile, Slow};
 use exchange::{Bus, End};
 use host::{Host, ListHost, PollHost};
 use master::Master;
-use support::{list_of, queue_of};
 use port::Port;
+use support::{list_of, queue_of};
 use transfer::{Address, ClockPair, Transfer};
 
+/// The logger, the alarm unit and the service port.
 pub type HeadMasters = (
     Master<ListHost>,
     (Master<PollHost>, (Master<ListHost>, End)),
 );
 
+/// The registers, the slow queue and the quick one.
 pub type HeadPorts = (
     Port<Busy<RegisterFile>>,
     (Port<Slow<EventQueue>>, (Port<EventQueue>, End)),
 );
 
+/// The bus of the sensor head.
 pub type HeadBus = Bus<HeadMasters, HeadPorts>;
 
 const REGISTERS: u32 = 0x50;
@@ -34,8 +38,7 @@ const EVENTS: u32 = 0x51;
 // No port has this address.
 const NOBODY: u32 = 0x22;
 
-// Apart from the service port: what each sends is the point of the program, and one function would take all of it as
-// arguments.
+// It writes two registers, and then reads them back. What each master sends is the point, so each has a function.
 fn logger() -> Master<ListHost>
     ensures { ListsAt 2 2 log_write log_read (hosted_master ⟦<ListHost as Host>⟧ result) }
 {
@@ -55,6 +58,7 @@ fn alarm_unit() -> Master<PollHost>
     Master::new(clock, PollHost::new(read, 0x80))
 }
 
+// It writes one of the same registers, and then looks whether somebody else answers.
 fn service_port() -> Master<ListHost>
     ensures { ListsAt 3 1 service_write probe_write (hosted_master ⟦<ListHost as Host>⟧ result) }
 {
@@ -71,6 +75,7 @@ fn slow_events() -> Slow<EventQueue>
     Slow::new(5, queue_of(&[0x91, 0x85]).unwrap())
 }
 
+/// Each master at its clock with what its host wants, each device as it is made.
 pub fn head_bus() -> HeadBus
     ensures { IsHead (bus_model result) }
 {

@@ -1,5 +1,5 @@
--- What a host means: what it wants by its meaning alone, and its next meaning once it is told an outcome.
-use Rattle.std.specs.Prelude.{Bool, cond, Some, None, Option}
+-- What a host means: a meaning, what it wants by it alone, and what an outcome makes of it.
+use Rattle.std.specs.Prelude.{Bool, if◌then◌else◌, Some, None, Option}
 use Rattle.transfer.specs.declared.draft.Transfer.{Transfer}
 use Rattle.transfer.specs.Outcome.{OutcomeModel}
 
@@ -10,4 +10,4 @@ pub record HostBehaviour : Type 1 where
 
 -- the flag beside the transfer says whether it is wanted
 abbrev pub wanted_transfer : Bool × Transfer → Option Transfer
-wanted_transfer a = cond a.0 (Some a.1) None
+wanted_transfer a = if a.0 then Some a.1 else None

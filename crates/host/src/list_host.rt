@@ -1,14 +1,8 @@
 // A host with a list of up to 8 transfers.
-ghost use Rattle.std.specs.Prelude.{◌≡◌, [], None};
-ghost use Rattle.std.specs.Option.{option_map};
-ghost use Rattle.transfer.specs.Outcome.{outcome_model};
-ghost use Rattle.transfer.specs.Refusal.{answer};
-ghost use Rattle.host.specs.ListHost.{list_host_model, list_host_after_fill, list_host};
-
 use crate::host::Host;
-use transfer::Fifo;
-use transfer::{Outcome, Refusal, Transfer};
+use transfer::{Fifo, Outcome, Refusal, Transfer};
 
+/// It wants the transfers of its list, one after the other, whatever comes of them.
 #[derive(Drop)]
 pub struct ListHost {
     transfers: Fifo<Transfer>,
@@ -16,7 +10,13 @@ pub struct ListHost {
 }
 
 impl ListHost {
-    // An empty list.
+    ghost use Rattle.std.specs.Option.{option_map};
+    ghost use Rattle.std.specs.Prelude.{◌≡◌, [], None};
+    ghost use Rattle.transfer.specs.Outcome.{outcome_model};
+    ghost use Rattle.transfer.specs.Refusal.{answer};
+    ghost use Rattle.host.specs.ListHost.{list_host_model, list_host_after_fill};
+
+    /// An empty list, and no outcome.
     pub fn new() -> ListHost
         ensures { list_host_model result ≡ record { rest = []; last = None } }
     {
@@ -26,9 +26,11 @@ impl ListHost {
         }
     }
 
-    // Starts a new list, with no outcome yet. One that is too long is refused, and changes nothing.
+    /// Starts a new list of up to 8 transfers, with no outcome yet. One that is too long is
+    /// refused, and changes nothing.
     pub fn fill(&mut self, transfers: &[Transfer]) -> Result<(), Refusal>
-        ensures { (answer (λ u. u) result, list_host_model self.new) ≡ list_host_after_fill transfers.now (list_host_model self.old) }
+        ensures { (answer (λ u. u) result, list_host_model self.new)
+            ≡ list_host_after_fill transfers.now (list_host_model self.old) }
     {
         self.transfers.fill(transfers)?;
         self.last = None;
@@ -42,7 +44,7 @@ impl ListHost {
         self.transfers.left()
     }
 
-    // Each make has its own: a trait for it would be longer than this.
+    /// The last outcome that it was told since it was filled, if any.
     pub fn last(&self) -> Option<Outcome>
         ensures { option_map outcome_model result ≡ (list_host_model self.now).last }
     {
@@ -51,6 +53,8 @@ impl ListHost {
 }
 
 impl Host for ListHost {
+    ghost use Rattle.host.specs.ListHost.{list_host_model, list_host};
+
     ghost behaviour = { list_host };
 
     ghost meaning = { list_host_model };

@@ -3,6 +3,7 @@ pub mod DeviceMaps
 pub mod NotesAreAsks
 pub mod NotingBusAlongside
 pub mod UnmarkedAsAlone
+pub mod PointsOfUse
 pub mod SomebodyInAfterA
 pub mod NotesOfLeg
 pub mod RecordAfterA

@@ -33,7 +33,8 @@ front : (b : Bool) (n : ℕ) (xs ys : List ℕ) → cond b (n ∷ (xs ++ ys)) (x
 front true n xs ys = refl
 front false n xs ys = refl
 
-numbers_push : (p : Mark → Bool) (n k : ℕ) (ms : List Mark) (m : Mark) → k ≡ n + length ms → numbers p n (ms ++ (m ∷ [])) ≡ numbers p n ms ++ cond (p m) (k ∷ []) []
+numbers_push : (p : Mark → Bool) (n k : ℕ) (ms : List Mark) (m : Mark) → k ≡ n + length ms →
+    numbers p n (ms ++ (m ∷ [])) ≡ numbers p n ms ++ cond (p m) (k ∷ []) []
 numbers_push p n k [] m e = let here : k ≡ n = omega arith in rw here
 numbers_push p n k (x ∷ ms) m e =
     rw (numbers_push p (suc n) k ms m (omega arith)) (front (p x) n (numbers p (suc n) ms) (cond (p m) (k ∷ []) []))
@@ -47,4 +48,5 @@ module _ (f : ℕ → List ℕ) (m : Mark) where
       so_far i ms ++ flat_map f (cond b (i ∷ []) []) ≡ so_far (i + 1) ms
   next ms i d b h e =
       let before = length-take-le i ms (omega arith) in
-      rw (take_more ms i d h, numbers_push (is_mark m) 0 i (take i ms) (slice_index_or ms i d) (omega (arith, before)), e) (sym (flat_map-append f (numbers (is_mark m) 0 (take i ms)) (cond b (i ∷ []) [])))
+      rw (take_more ms i d h, numbers_push (is_mark m) 0 i (take i ms) (slice_index_or ms i d) (omega (arith, before)), e)
+      (sym (flat_map-append f (numbers (is_mark m) 0 (take i ms)) (cond b (i ∷ []) [])))

@@ -1,4 +1,4 @@
--- What a tick shows, and the listing after it.
+-- A listing, what the next tick shows, and the listing after it.
 use Rattle.std.specs.Prelude.{ℕ, ◌+◌, ◌-◌, ◌^◌, min}
 use Rattle.law.specs.declared.tick.Tick.{Tick}
 use Rattle.wire.specs.Decoder.{new_decoder, decoder_step}

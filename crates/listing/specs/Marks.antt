@@ -1,7 +1,8 @@
--- The text of a tick, where d is its number in digits: a line for each mark.
-use Rattle.std.specs.Prelude.{ℕ, suc, Bool, true, false, cond, List, [], ◌∷◌, ◌++◌, codes}
+-- The lines of a tick, where d is its number in digits: one for each mark.
+use Rattle.std.specs.Prelude.{ℕ, suc, ◌+◌, ◌*◌, Bool, true, false, if◌then◌else◌, List, [], ◌∷◌, ◌++◌, codes}
 use Rattle.std.specs.List.{flat_map}
-use Rattle.law.specs.Run.{is_told}
+use Rattle.law.specs.Limits.{most_masters}
+use Rattle.master.specs.Mark.{is_told, is_lost}
 use Rattle.master.specs.declared.mark.Mark.{Mark}
 use Rattle.master.specs.declared.mark.Mark.TheVariants.{Quiet, Told, Lost}
 use Rattle.listing.specs.declared.marks.Marks.{Marks}
@@ -19,11 +20,6 @@ wire_line d (Byte b) = line_of d (byte_text b)
 wire_line d Stop = []
 wire_line d Nothing = []
 
-abbrev pub is_lost : Mark → Bool
-is_lost Lost = true
-is_lost Told = false
-is_lost Quiet = false
-
 abbrev pub is_quiet : Mark → Bool
 is_quiet Quiet = true
 is_quiet Told = false
@@ -38,7 +34,7 @@ is_mark Quiet m = is_quiet m
 -- the numbers of the masters whose mark passes, the lowest first, where the first is master n
 abbrev pub numbers : (Mark → Bool) → ℕ → List Mark → List ℕ
 numbers p n [] = []
-numbers p n (m ∷ ms) = cond (p m) (n ∷ numbers p (suc n) ms) (numbers p (suc n) ms)
+numbers p n (m ∷ ms) = if p m then n ∷ numbers p (suc n) ms else numbers p (suc n) ms
 
 -- each number between two texts
 abbrev pub numbers_text : List ℕ → List ℕ → List ℕ → List ℕ
@@ -62,6 +58,20 @@ stop_line d Stop ms = line_of d (codes "P" ++ told_text ms)
 stop_line d Start ms = []
 stop_line d (Byte b) ms = []
 stop_line d Nothing ms = []
+
+-- of a number of 64 bits
+abbrev pub most_digits : ℕ
+most_digits = 20
+
+-- how much the longest line of each kind has beside the number, as " 3A N", " L 7" and " P 0 1 2", with the end of the line
+abbrev pub wire_room : ℕ
+wire_room = 6
+
+abbrev pub loser_room : ℕ
+loser_room = 5
+
+abbrev pub stop_room : ℕ
+stop_room = 3 + 2 * most_masters
 
 abbrev pub lines_of : List ℕ → Marks → List ℕ
 lines_of d m = (wire_line d m.wire ++ loser_lines d m.masters) ++ stop_line d m.wire m.masters

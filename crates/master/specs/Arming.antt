@@ -1,5 +1,7 @@
 -- Whether a master is armed, and with what.
 use Rattle.std.specs.Prelude.{ℕ, Bool, true, false, Some, None, Ok, Err, Option, Result}
+use Rattle.transfer.specs.Refusal.{number}
+use Rattle.transfer.specs.declared.refusal.Refusal.TheVariants.{ArmedAlready, NothingWanted}
 use Rattle.master.specs.declared.arming.Arming.{Arming}
 use Rattle.master.specs.declared.arming.Arming.TheVariants.{Unarmed, Armed}
 
@@ -11,8 +13,8 @@ abbrev pub arming_map : {T U : Type 0} → (T → U) → Arming T → Arming U
 arming_map f Unarmed = Unarmed
 arming_map f (Armed t) = Armed (f t)
 
--- an armed master is refused with 6, and one whose host wants nothing with 7
+-- what arming answers, and what it leaves: an armed master is refused, and one whose host wants nothing
 abbrev pub arming_after_arm : {T : Type 0} → Arming T → Option T → Result (Unit {0}) ℕ × Arming T
-arming_after_arm (Armed t) want = (Err 6, Armed t)
-arming_after_arm Unarmed None = (Err 7, Unarmed)
+arming_after_arm (Armed t) want = (Err (number ArmedAlready), Armed t)
+arming_after_arm Unarmed None = (Err (number NothingWanted), Unarmed)
 arming_after_arm Unarmed (Some t) = (Ok tt, Armed t)

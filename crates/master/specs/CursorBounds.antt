@@ -15,7 +15,7 @@ abbrev pub leg_to_come : Rest → Option Leg
 leg_to_come (First o) = o
 leg_to_come Second = None
 
--- byte y + 1 is the leg's byte y
+-- how many bytes are read at most by then; byte y + 1 of a cursor is the leg's byte y
 abbrev pub most_read_at : At → Rest → ℕ → ℕ
 most_read_at InLeg s y = most_bytes * leg_number s + (y - 1)
 most_read_at Restart s y = most_bytes

@@ -14,7 +14,7 @@ use Rattle.master.specs.Arming.{is_armed}
 use Rattle.master.specs.MasterState.{MasterModel, VerdictModel, quiet, lost, told, master_step, arm_master, new_master, master_model}
 use Rattle.master.specs.Script.{transfers}
 
--- a master and the meaning of its host
+-- a master as the rules see it, and the meaning of its host
 pub record HostedMaster (h : HostBehaviour) : Type 0 where
   pub master : MasterModel transfers
   pub meaning : h.Meaning
@@ -38,7 +38,8 @@ module _ (h : HostBehaviour) where
 
   -- a master steps, and its host is told what comes of it
   abbrev pub hosted_step : Signal → HostedMaster h → HostedMaster h
-  hosted_step s x = let y = master_step transfers x.master s in record { master = y.0; meaning = meaning_after x.meaning y.1 }
+  hosted_step s x = let y = master_step transfers x.master s in
+      record { master = y.0; meaning = meaning_after x.meaning y.1 }
 
   abbrev pub hosted_mark : Signal → HostedMaster h → Mark
   hosted_mark s x = mark_of (master_step transfers x.master s).1
@@ -52,14 +53,20 @@ module _ (h : HostBehaviour) where
   abbrev pub hosted_is_armed : HostedMaster h → Bool
   hosted_is_armed x = is_armed x.master.arming
 
-  abbrev pub hosted_new : HostedMaster h → HostedMaster h
-  hosted_new x = record { master = new_master transfers x.master.low x.master.high; meaning = x.meaning }
+  -- at a clock of these counts
+  abbrev pub new_hosted_master : ℕ → ℕ → h.Meaning → HostedMaster h
+  new_hosted_master low high m = record { master = new_master transfers low high; meaning = m }
 
-  abbrev pub with_master : HostedMaster h → Result (Unit {0}) ℕ × MasterModel transfers → Result (Unit {0}) ℕ × HostedMaster h
-  with_master x a = (a.0, record { master = a.1; meaning = x.meaning })
+  abbrev pub hosted_new : HostedMaster h → HostedMaster h
+  hosted_new x = new_hosted_master x.master.low x.master.high x.meaning
+
+  abbrev pub with_master : HostedMaster h → Result (Unit {0}) ℕ × MasterModel transfers →
+      Result (Unit {0}) ℕ × HostedMaster h
+  with_master x a = (a.0, record x { master = a.1 })
 
   abbrev pub hosted_arm : HostedMaster h → Result (Unit {0}) ℕ × HostedMaster h
-  hosted_arm x = with_master x (arm_master transfers x.master (option_map transfer_model (h.want x.meaning)))
+  hosted_arm x =
+      with_master x (arm_master transfers x.master (option_map transfer_model (h.want x.meaning)))
 
 -- a master as the rules see it, its host by what that means
 abbrev pub hosted_master : {H : Type 0} → (host : Ghosts H) → Master H → HostedMaster host.behaviour

@@ -1,15 +1,15 @@
--- One master after one event: the rules of a contender.
-use Rattle.std.specs.Prelude.{ℕ, ◌-◌, Bool, true, false, cond, Option, Result, ◌==◌, nat_lt}
+-- A master after an event: the rules of a contender, over any script that it plays.
+use Rattle.std.specs.Prelude.{ℕ, ◌-◌, Bool, true, false, if◌then◌else◌, Option, Result, ◌==◌, nat_lt}
 use Rattle.std.specs.Option.{unwrap_or}
 use Rattle.transfer.specs.Transfer.{transfer_model}
 use Rattle.transfer.specs.Outcome.{outcome_model}
 use Rattle.master.specs.declared.arming.Arming.{Arming}
 use Rattle.master.specs.declared.arming.Arming.TheVariants.{Unarmed, Armed}
-use Rattle.master.specs.declared.master.MasterState.{MasterState}
-use Rattle.master.specs.declared.master.Stage.{Stage}
-use Rattle.master.specs.declared.master.Stage.TheVariants.{Idle, StartPending, Sending, StopPending}
-use Rattle.master.specs.declared.master.Verdict.{Verdict}
-use Rattle.master.specs.declared.master.Verdict.TheVariants.{Quiet, Lost, Told}
+use Rattle.master.specs.declared.state.MasterState.{MasterState}
+use Rattle.master.specs.declared.state.Stage.{Stage}
+use Rattle.master.specs.declared.state.Stage.TheVariants.{Idle, StartPending, Sending, StopPending}
+use Rattle.master.specs.declared.state.Verdict.{Verdict}
+use Rattle.master.specs.declared.state.Verdict.TheVariants.{Quiet, Lost, Told}
 use Rattle.master.specs.declared.symbol.Symbol.{Symbol}
 use Rattle.master.specs.declared.symbol.Symbol.TheVariants as symbol
 use Rattle.wire.specs.declared.event.Event.{Event}
@@ -44,10 +44,12 @@ module _ (W : Script) where
     told : W.Outcome → VerdictModel
 
   abbrev pub new_master : ℕ → ℕ → MasterModel
-  new_master low high = record { low = low; high = high; arming = Unarmed; stage = idle; count = 0; pulls = no_pulls }
+  new_master low high =
+      record { low = low; high = high; arming = Unarmed; stage = idle; count = 0; pulls = no_pulls }
 
   abbrev pub with_stage : MasterModel → StageModel → ℕ → Bool → Bool → MasterModel
-  with_stage m s n scl sda = record { low = m.low; high = m.high; arming = m.arming; stage = s; count = n; pulls = record { scl = scl; sda = sda } }
+  with_stage m s n scl sda =
+      record m { stage = s; count = n; pulls = record { scl = scl; sda = sda } }
 
   -- a loser lets go of both lines, stays armed and waits
   abbrev pub losing_step : MasterModel → MasterModel × VerdictModel
@@ -66,7 +68,8 @@ module _ (W : Script) where
 
   -- at a fall SCL is pulled and the symbol shown
   abbrev pub showing_step : MasterModel → W.Cursor → MasterModel × VerdictModel
-  showing_step m c = (with_stage m (sending (W.symbol c) c) m.low true (pulls_sda (W.symbol c)), quiet)
+  showing_step m c =
+      (with_stage m (sending (W.symbol c) c) m.low true (pulls_sda (W.symbol c)), quiet)
 
   abbrev pub counting_step : MasterModel → StageModel → MasterModel × VerdictModel
   counting_step m s = (with_stage m s m.high m.pulls.scl m.pulls.sda, quiet)
@@ -75,8 +78,10 @@ module _ (W : Script) where
   abbrev pub rise_step : MasterModel → Symbol → W.Cursor → Bool → MasterModel × VerdictModel
   rise_step m symbol.Zero c b = counting_step m (sending symbol.Zero c)
   rise_step m symbol.Listen c b = counting_step m (sending symbol.Listen c)
-  rise_step m symbol.One c b = cond b (counting_step m (sending symbol.One c)) (losing_step m)
-  rise_step m symbol.RepeatedStart c b = cond b (with_stage m (sending symbol.RepeatedStart c) m.high m.pulls.scl true, quiet) (losing_step m)
+  rise_step m symbol.One c b = if b then counting_step m (sending symbol.One c) else losing_step m
+  rise_step m symbol.RepeatedStart c b =
+      if b then (with_stage m (sending symbol.RepeatedStart c) m.high m.pulls.scl true, quiet)
+      else losing_step m
   rise_step m symbol.Stop c b = (with_stage m (stop_pending c) m.high m.pulls.scl false, quiet)
 
   abbrev pub restart_step : MasterModel → Symbol → W.Cursor → MasterModel × VerdictModel
@@ -94,8 +99,9 @@ module _ (W : Script) where
   high_step m s = (with_stage m s (m.count - 1) (m.count - 1 == 0) m.pulls.sda, quiet)
 
   -- a master in a stage, at an event, with the bit that counts at it and whether the bus is free with both lines high
-  abbrev pub stage_step : MasterModel → StageModel → Event → Option Bool → Bool → MasterModel × VerdictModel
-  stage_step m idle SteadyHigh o free = cond free (contending_step m m.arming) (quiet_step m)
+  abbrev pub stage_step : MasterModel → StageModel → Event → Option Bool → Bool →
+      MasterModel × VerdictModel
+  stage_step m idle SteadyHigh o free = if free then contending_step m m.arming else quiet_step m
   stage_step m idle (Rise b) o free = quiet_step m
   stage_step m idle Fall o free = quiet_step m
   stage_step m idle Start o free = quiet_step m
@@ -125,7 +131,7 @@ module _ (W : Script) where
 
   abbrev pub arm_master : MasterModel → Option W.Task → Result (Unit {0}) ℕ × MasterModel
   arm_master m want = let a = arming_after_arm m.arming want in
-      (a.0, record { low = m.low; high = m.high; arming = a.1; stage = m.stage; count = m.count; pulls = m.pulls })
+      (a.0, record m { arming = a.1 })
 
 abbrev pub stage_model : Stage → StageModel transfers
 stage_model Idle = idle

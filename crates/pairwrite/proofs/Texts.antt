@@ -10,7 +10,8 @@ none [] e = refl
 none (x ∷ []) e = refl
 none (x ∷ y ∷ xs) e = absurd (cc)
 
-pub two : (xs bytes : List ℕ) (m n : ListHostModel) → Some bytes ≡ first_two xs → Wants (slice_index bytes 0) m → Wants (slice_index bytes 1) n → Prints xs (run_lines m n)
+pub two : (xs bytes : List ℕ) (m n : ListHostModel) → Some bytes ≡ first_two xs → Wants (slice_index bytes 0) m →
+    Wants (slice_index bytes 1) n → Prints xs (run_lines m n)
 two [] bytes m n e first second = absurd (cc)
 two (x ∷ []) bytes m n e first second = absurd (cc)
 two (x ∷ y ∷ xs) bytes m n e first second =

@@ -5,14 +5,15 @@ ghost use Rattle.pairwrite.specs.Run.{PrintsInput};
 
 use crate::input::Input;
 use crate::setup::bus_of;
-use support::{Output, print_run, ticks_of_turns};
 use std::io;
+use support::{Output, print_run, ticks_of_turns};
 
 const MASTERS: usize = 2;
 
 // The first two bytes of the input, if it has as many.
 fn two_bytes<I: Input>(input: &mut I) -> io::Result<Option<[u8; 2]>>
-    ensures read { IfOk result (λ bytes. (xs : List ℕ) × Reads I.Input.gives input.old xs input.new × (bytes ≡ first_two xs)) }
+    ensures read { IfOk result (λ bytes. (xs : List ℕ) ×
+        Reads I.Input.gives input.old xs input.new × (bytes ≡ first_two xs)) }
     ensures failed { IfErr result (FailsToRead I.Input.gives I.Input.fails input.old input.new) }
 {
     let Some(first) = input.next()? else {
@@ -24,9 +25,10 @@ fn two_bytes<I: Input>(input: &mut I) -> io::Result<Option<[u8; 2]>>
     Ok(Some([first, second]))
 }
 
-// Each of the two masters has one turn. Further bytes are not looked at.
+/// Each of the two masters has one turn. Further bytes are not looked at.
 pub fn run<I: Input, O: Output>(input: &mut I, out: &mut O) -> io::Result<()>
-    ensures { PrintsInput I.Input.gives I.Input.fails O.Output.takes O.Output.fails input.old input.new out.old result out.new }
+    ensures { PrintsInput I.Input.gives I.Input.fails O.Output.takes O.Output.fails
+        input.old input.new out.old result out.new }
 {
     let Some(bytes) = two_bytes(input)? else {
         return Ok(());

@@ -12,9 +12,10 @@ const ADDRESS: u32 = 0x50;
 
 const REGISTER: u8 = 3;
 
-// Each master wants to write its byte, and nothing else.
+/// Each master wants to write its byte, and nothing else.
 pub fn bus_of(first: u8, second: u8) -> PairBus<ListHost>
-    ensures { (m : ListHostModel) × (n : ListHostModel) × Wants first m × Wants second n × (bus_model result ≡ pair_of m n) }
+    ensures { (m : ListHostModel) × (n : ListHostModel) × Wants first m × Wants second n ×
+        (bus_model result ≡ pair_of m n) }
 {
     let address = Address::new(ADDRESS).unwrap();
     let clocks = Clocks {

@@ -34,8 +34,10 @@ module _ (b : Behaviour) (Q : b.Meaning → Type 0) (select : (m : b.Meaning) (d
         let v = shift_in y.value x in
         let d = direction_of (v % 2 == 1) in
         either (nat_lt y.bits 7) _ (port_after_address b p (v / 2) d) kept
-        (either (answers_to p.address (v / 2)) (port_after_select b p d (b.select p.meaning d)) (with_mode b p Out) (select p.meaning d kept) kept)
-    kept_at_bit (Writing y) x = let v = shift_in y.value x in either (nat_lt y.bits 7) _ (port_after_put b p (b.put p.meaning v)) kept (put p.meaning v kept)
+        (either (answers_to p.address (v / 2)) (port_after_select b p d (b.select p.meaning d)) (with_mode b p Out)
+        (select p.meaning d kept) kept)
+    kept_at_bit (Writing y) x = let v = shift_in y.value x in either (nat_lt y.bits 7) _
+        (port_after_put b p (b.put p.meaning v)) kept (put p.meaning v kept)
     kept_at_bit (Acknowledging Write) x = kept
     kept_at_bit (Acknowledging Read) x = kept_taking x
     kept_at_bit (Reading y) x = either (nat_lt y.bits 8) _ (port_after_read_acknowledge b p x (b.take p.meaning) h) kept (kept_taking x)

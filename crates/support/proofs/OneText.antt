@@ -22,14 +22,17 @@ module _ (b : Behaviour) where
   meant_at_bit : (p : PortModel b) (m : Mode) (x : Bool) (h k : ℕ) → (port_after_bit b p m x h).meaning ≡ (port_after_bit b p m x k).meaning
   meant_at_bit p m x h k = grind arith
 
-  meant : (p : PortModel b) (e : Event) (o : Option Bool) (h k : ℕ) → (port_after_event b p e o h).meaning ≡ (port_after_event b p e o k).meaning
+  meant : (p : PortModel b) (e : Event) (o : Option Bool) (h k : ℕ) →
+      (port_after_event b p e o h).meaning ≡ (port_after_event b p e o k).meaning
   meant p e o h k = grind (arith, meant_at_bit p p.mode)
 
   -- only an answer that is asked for is used
-  alike_at_bit : (p : PortModel b) (m : Mode) (x : Bool) (h k : ℕ) → (asks_hold_at_bit m x ≡ true → h ≡ k) → port_after_bit b p m x h ≡ port_after_bit b p m x k
+  alike_at_bit : (p : PortModel b) (m : Mode) (x : Bool) (h k : ℕ) → (asks_hold_at_bit m x ≡ true → h ≡ k) →
+      port_after_bit b p m x h ≡ port_after_bit b p m x k
   alike_at_bit p m x h k e = grind arith
 
-  alike : (p : PortModel b) (e : Event) (o : Option Bool) (h k : ℕ) → (asks_hold_at_event p.mode e o ≡ true → h ≡ k) → port_after_event b p e o h ≡ port_after_event b p e o k
+  alike : (p : PortModel b) (e : Event) (o : Option Bool) (h k : ℕ) → (asks_hold_at_event p.mode e o ≡ true → h ≡ k) →
+      port_after_event b p e o h ≡ port_after_event b p e o k
   alike p e o h k same = grind (arith, alike_at_bit p p.mode)
 
   port_alike : (p : PortModel b) (s : Signal) (h k : ℕ) → ((m : b.Meaning) (h k : ℕ) → b.holds m h → b.holds m k → h ≡ k) →
@@ -38,7 +41,8 @@ module _ (b : Behaviour) where
       alike p s.event s.bit h k (λ asked.
       one _ h k (subst (λ m. b.holds m h) (meant p s.event s.bit h k) (first asked)) (second asked))
 
-ports_alike : (ds : List Behaviour) (p : Bank PortModel ds) (s : Signal) (a c : HoldAnswers ds) → OneHold ds → AllMayAnswer ds p s a → AllMayAnswer ds p s c →
+ports_alike : (ds : List Behaviour) (p : Bank PortModel ds) (s : Signal) (a c : HoldAnswers ds) → OneHold ds →
+    AllMayAnswer ds p s a → AllMayAnswer ds p s c →
     ports_step ds p s a ≡ ports_step ds p s c
 ports_alike [] p s a c one first second = refl
 ports_alike (d ∷ ds) p s a c one first second =
@@ -49,12 +53,14 @@ module _ (hs : List HostBehaviour) (ds : List Behaviour) (one : OneHold ds) wher
   tick_alike u a c first second = rw (ports_alike ds u.ports (signal u.wire (levels_at hs ds u)) a c one first second)
 
   module _ (masters : ℕ) where
-    ticked_alike : (r : Listened hs ds) (a c : HoldAnswers ds) → Answered hs ds r.bus a → Answered hs ds r.bus c → listened_after_tick hs ds masters r a ≡ listened_after_tick hs ds masters r c
+    ticked_alike : (r : Listened hs ds) (a c : HoldAnswers ds) → Answered hs ds r.bus a → Answered hs ds r.bus c →
+        listened_after_tick hs ds masters r a ≡ listened_after_tick hs ds masters r c
     ticked_alike r a c first second =
         ap (λ t. record { bus = all_armed hs ds masters t.1; listing = (listing_step r.listing t.0).1 }) (tick_alike r.bus a c first second)
 
     -- so many ticks have one text and one end; the lines of a tick do not depend on its answers
-    ran_alike : (n : ℕ) (u : BusModel hs ds) (text other : List ℕ) (s t : Listened hs ds) → Runs hs ds masters n u text s → Runs hs ds masters n u other t →
+    ran_alike : (n : ℕ) (u : BusModel hs ds) (text other : List ℕ) (s t : Listened hs ds) → Runs hs ds masters n u text s →
+        Runs hs ds masters n u other t →
         (text ≡ other) × (s ≡ t)
     ran_alike zero u text other s t ran again = (ran.0 ∙ sym again.0, ran.1 ∙ sym again.1)
     ran_alike (suc n) u text other s t (r, before, h, ran, awake, answered, grows, is) (q, earlier, k, again, up, allowed, gets, comes) =
@@ -74,7 +80,8 @@ module _ (hs : List HostBehaviour) (ds : List Behaviour) (one : OneHold ds) wher
       whole : before ++ rest ≡ text
       awake : n < m → is_at_rest hs ds end.bus ≡ false
 
-    all_ticks : (n m : ℕ) (u : BusModel hs ds) (text : List ℕ) (s : Listened hs ds) → n ≡ m → Runs hs ds masters m u text s → First n m u text
+    all_ticks : (n m : ℕ) (u : BusModel hs ds) (text : List ℕ) (s : Listened hs ds) → n ≡ m → Runs hs ds masters m u text s →
+        First n m u text
     all_ticks n m u text s e ran = record {
       before = text;
       rest = [];
@@ -84,7 +91,8 @@ module _ (hs : List HostBehaviour) (ds : List Behaviour) (one : OneHold ds) wher
       awake = λ less. absurd (omega (arith, less));
     }
 
-    first_ticks : (n m : ℕ) (u : BusModel hs ds) (text : List ℕ) (s : Listened hs ds) → n ≤ m → Runs hs ds masters m u text s → First n m u text
+    first_ticks : (n m : ℕ) (u : BusModel hs ds) (text : List ℕ) (s : Listened hs ds) → n ≤ m → Runs hs ds masters m u text s →
+        First n m u text
     first_ticks n zero u text s few ran = all_ticks n zero u text s (omega arith) ran
     first_ticks n (suc m) u text s few (r, before, h, ran, awake, answered, grows, is) =
         ⊎_elim
@@ -129,7 +137,8 @@ module _ (hs : List HostBehaviour) (ds : List Behaviour) (one : OneHold ds) wher
         (λ enough. enough)
         (cases_lt n m)
 
-    pub only_run : (most : ℕ) (u : BusModel hs ds) (text : List ℕ) (s : Listened hs ds) → RunsTo hs ds masters most u text s → OnlyRun hs ds masters most u text s
+    pub only_run : (most : ℕ) (u : BusModel hs ds) (text : List ℕ) (s : Listened hs ds) → RunsTo hs ds masters most u text s →
+        OnlyRun hs ds masters most u text s
     only_run most u text s run = record {
       run = run;
       only = λ other t again.
@@ -139,7 +148,8 @@ module _ (hs : List HostBehaviour) (ds : List Behaviour) (one : OneHold ds) wher
           ran_alike run.ticks u other text t s (subst (λ n. Runs hs ds masters n u other t) same again.ran) run.ran;
     }
 
-    module _ {W : Type 0} (takes : W → List ℕ → W → Type 0) (fails : W → List ℕ → Error → W → Type 0) (most : ℕ) (u v : BusModel hs ds) (out after : W)
+    module _ {W : Type 0} (takes : W → List ℕ → W → Type 0) (fails : W → List ℕ → Error → W → Type 0) (most : ℕ)
+        (u v : BusModel hs ds) (out after : W)
         (text : List ℕ) (s : Listened hs ds) (run : RunsTo hs ds masters most u text s) where
       pub puts_only : PrintsAll hs ds takes masters most u v out after → WritesInCalls takes out text after
       puts_only p = subst (λ x. WritesInCalls takes out x after) ((only_run most u text s run).only p.text p.end p.run).0 p.written
@@ -148,8 +158,10 @@ module _ (hs : List HostBehaviour) (ds : List Behaviour) (one : OneHold ds) wher
       puts_front e p =
           let failing = next_lines hs ds p.end p.holds in
           let there = listened_after_tick hs ds masters p.end p.holds in
-          let more : Runs hs ds masters (suc p.ticks) u (p.text ++ failing) there = (p.end, p.text, p.holds, p.ran, p.awake, p.answered, refl, refl) in
-          let few : suc p.ticks ≤ run.ticks = one_length most _ _ u text (p.text ++ failing) s there run.ran run.over more (omega (arith, p.bounded)) in
+          let more : Runs hs ds masters (suc p.ticks) u (p.text ++ failing) there =
+          (p.end, p.text, p.holds, p.ran, p.awake, p.answered, refl, refl) in
+          let few : suc p.ticks ≤ run.ticks = one_length most _ _ u text (p.text ++ failing) s there run.ran run.over more
+          (omega (arith, p.bounded)) in
           let f = first_ticks (suc p.ticks) run.ticks u text s few run.ran in
           let same = ran_alike (suc p.ticks) u (p.text ++ failing) f.before there f.end more f.ran in record {
             done = p.text;

@@ -15,7 +15,8 @@ module _ (hs : List HostBehaviour) (ds : List Behaviour) (masters : ℕ) (Fit : 
   ItRuns most u = (text : List ℕ) × (end : Listened hs ds) × RunsTo hs ds masters most u text end
 
   -- n ticks, and k more at most
-  goes_on : (n k most : ℕ) (u : BusModel hs ds) (text : List ℕ) (s : Listened hs ds) → n + k ≡ most → Fit s.bus → Runs hs ds masters n u text s →
+  goes_on : (n k most : ℕ) (u : BusModel hs ds) (text : List ℕ) (s : Listened hs ds) → n + k ≡ most → Fit s.bus →
+      Runs hs ds masters n u text s →
       ItRuns most u
   goes_on n zero most u text s e fit ran = (text, s, record { ticks = n; bounded = omega arith; ran = ran; over = inl (omega arith) })
   goes_on n (suc k) most u text s e fit ran =

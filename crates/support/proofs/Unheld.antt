@@ -12,9 +12,11 @@ use Rattle.support.specs.Output.{PutsPart}
 use Rattle.support.specs.PrintedRun.{Listened, listened_start, next_lines, listened_after_tick, Runs, unheld_lines, PrintsAll, PrintsPart}
 
 module _ (hs : List HostBehaviour) (ds : List Behaviour) (never : NeverHold ds) (masters : ℕ) where
-  ticked_unheld : (r : Listened hs ds) (h : HoldAnswers ds) → Answered hs ds r.bus h → listened_after_tick hs ds masters r h ≡ listened_after_tick hs ds masters r (no_holds ds)
+  ticked_unheld : (r : Listened hs ds) (h : HoldAnswers ds) → Answered hs ds r.bus h →
+      listened_after_tick hs ds masters r h ≡ listened_after_tick hs ds masters r (no_holds ds)
   ticked_unheld r h answered =
-      ap (λ t. record { bus = all_armed hs ds masters t.1; listing = (listing_step r.listing t.0).1 }) (tick_unheld hs ds r.bus h never answered)
+      ap (λ t. record { bus = all_armed hs ds masters t.1; listing = (listing_step r.listing t.0).1 })
+      (tick_unheld hs ds r.bus h never answered)
 
   at_rest : (n : ℕ) (s : Listened hs ds) → is_at_rest hs ds s.bus ≡ true → unheld_lines hs ds masters n s ≡ []
   unfolding unheld_lines
@@ -22,7 +24,8 @@ module _ (hs : List HostBehaviour) (ds : List Behaviour) (never : NeverHold ds) 
   at_rest (suc n) s rest = rw rest refl
 
   awake : (n : ℕ) (s : Listened hs ds) → is_at_rest hs ds s.bus ≡ false →
-      unheld_lines hs ds masters (suc n) s ≡ next_lines hs ds s (no_holds ds) ++ unheld_lines hs ds masters n (listened_after_tick hs ds masters s (no_holds ds))
+      unheld_lines hs ds masters (suc n) s ≡ next_lines hs ds s (no_holds ds) ++ unheld_lines hs ds masters n
+      (listened_after_tick hs ds masters s (no_holds ds))
   unfolding unheld_lines
   awake n s on = rw on refl
 
@@ -31,7 +34,8 @@ module _ (hs : List HostBehaviour) (ds : List Behaviour) (never : NeverHold ds) 
       text ++ unheld_lines hs ds masters k s ≡ unheld_lines hs ds masters m (listened_start hs ds masters u)
   all zero k m u text s e (none, same) = let here : k ≡ m = omega arith in rw (none, same, here) refl
   all (suc n) k m u text s e (r, before, h, ran, on, answered, grows, same) =
-      rw (grows, same ∙ ticked_unheld r h answered, append_assoc) (ap (λ x. before ++ x) (sym (awake k r on)) ∙ all n (suc k) m u before r (omega arith) ran)
+      rw (grows, same ∙ ticked_unheld r h answered, append_assoc)
+      (ap (λ x. before ++ x) (sym (awake k r on)) ∙ all n (suc k) m u before r (omega arith) ran)
 
   none_left : (s : Listened hs ds) → unheld_lines hs ds masters zero s ≡ []
   unfolding unheld_lines
@@ -49,18 +53,23 @@ module _ (hs : List HostBehaviour) (ds : List Behaviour) (never : NeverHold ds) 
       (λ rest. over_here n (most - n) most u text s (omega arith) ran (at_rest (most - n) s rest))
       over
 
-  module _ {W : Type 0} (takes : W → List ℕ → W → Type 0) (fails : W → List ℕ → Error → W → Type 0) (most : ℕ) (u v : BusModel hs ds) (out after : W) where
-    pub puts_all : PrintsAll hs ds takes masters most u v out after → WritesInCalls takes out (unheld_lines hs ds masters most (listened_start hs ds masters u)) after
-    puts_all p = subst (λ text. WritesInCalls takes out text after) (run_unheld p.run.ticks most u p.text p.end p.run.bounded p.run.ran p.run.over) p.written
+  module _ {W : Type 0} (takes : W → List ℕ → W → Type 0) (fails : W → List ℕ → Error → W → Type 0) (most : ℕ)
+      (u v : BusModel hs ds) (out after : W) where
+    pub puts_all : PrintsAll hs ds takes masters most u v out after →
+        WritesInCalls takes out (unheld_lines hs ds masters most (listened_start hs ds masters u)) after
+    puts_all p = subst (λ text. WritesInCalls takes out text after)
+        (run_unheld p.run.ticks most u p.text p.end p.run.bounded p.run.ran p.run.over) p.written
 
-    pub puts_part : (e : Error) → PrintsPart hs ds takes fails masters most u v out after e → PutsPart takes fails (unheld_lines hs ds masters most (listened_start hs ds masters u)) out after e
+    pub puts_part : (e : Error) → PrintsPart hs ds takes fails masters most u v out after e →
+        PutsPart takes fails (unheld_lines hs ds masters most (listened_start hs ds masters u)) out after e
     puts_part e p =
         let k = most - suc p.ticks in record {
           done = p.text;
           failing = next_lines hs ds p.end p.holds;
           rest = unheld_lines hs ds masters k (listened_after_tick hs ds masters p.end (no_holds ds));
           between = p.between;
-          whole = ap (λ x. p.text ++ x) (sym (awake k p.end p.awake)) ∙ all p.ticks (suc k) most u p.text p.end (omega (arith, p.bounded)) p.ran;
+          whole = ap (λ x. p.text ++ x) (sym (awake k p.end p.awake))
+              ∙ all p.ticks (suc k) most u p.text p.end (omega (arith, p.bounded)) p.ran;
           written = p.written;
           failed = p.failed;
         }

@@ -1,3 +1,4 @@
+pub mod Transfer
 pub mod Filled
 pub mod PairBus
 pub mod ArmAll

@@ -1,5 +1,5 @@
 -- A run of a bus whose masters are armed before each of its ticks, and what is printed of it.
-use Rattle.std.specs.Prelude.{◌≡◌, ℕ, zero, suc, ◌<◌, ◌≤◌, ◌⊎◌, true, false, cond, List, [], ◌∷◌, ◌++◌, decimal}
+use Rattle.std.specs.Prelude.{◌≡◌, ℕ, zero, suc, ◌<◌, ◌≤◌, ◌⊎◌, true, false, if◌then◌else◌, List, [], ◌∷◌, ◌++◌, decimal}
 use Rattle.std.specs.Fmt.{WritesInCalls}
 use Rattle.std.specs.declared.io.Error.{Error}
 use Rattle.device.specs.Device.{Behaviour}
@@ -27,7 +27,8 @@ module _ (hs : List HostBehaviour) (ds : List Behaviour) where
 
   -- the lines of the next tick
   abbrev pub next_lines : Listened → HoldAnswers ds → List ℕ
-  next_lines s h = let m = (listing_step s.listing (tick_at hs ds s.bus h).0).0 in lines_of (decimal m.tick) m
+  next_lines s h = let m = (listing_step s.listing (tick_at hs ds s.bus h).0).0 in
+      lines_of (decimal m.tick) m
 
   -- after the next tick, with the first masters armed again
   abbrev pub listened_after_tick : ℕ → Listened → HoldAnswers ds → Listened
@@ -39,26 +40,32 @@ module _ (hs : List HostBehaviour) (ds : List Behaviour) where
   abbrev pub Runs : ℕ → ℕ → BusModel hs ds → List ℕ → Listened → Type 0
   Runs masters zero u text s = (text ≡ []) × (s ≡ listened_start masters u)
   Runs masters (suc n) u text s =
-      (r : Listened) × (before : List ℕ) × (h : HoldAnswers ds) × Runs masters n u before r
-      × (is_at_rest hs ds r.bus ≡ false) × Answered hs ds r.bus h × (text ≡ before ++ next_lines r h) × (s ≡ listened_after_tick masters r h)
+      (r : Listened) × (before : List ℕ) × (h : HoldAnswers ds) × Runs masters n u before r ×
+      (is_at_rest hs ds r.bus ≡ false) × Answered hs ds r.bus h ×
+      (text ≡ before ++ next_lines r h) × (s ≡ listened_after_tick masters r h)
 
   -- the lines of n ticks at most from s on, where no device holds
   unfoldable pub unheld_lines : ℕ → ℕ → Listened → List ℕ
   unheld_lines masters zero s = []
   unheld_lines masters (suc n) s =
-      cond (is_at_rest hs ds s.bus) [] (next_lines s (no_holds ds) ++ unheld_lines masters n (listened_after_tick masters s (no_holds ds)))
+      let h = no_holds ds in
+      if is_at_rest hs ds s.bus then []
+      else next_lines s h ++ unheld_lines masters n (listened_after_tick masters s h)
 
   -- a run with this text: it ends at rest, or after the most ticks
-  pub record RunsTo (masters most : ℕ) (u : BusModel hs ds) (text : List ℕ) (end : Listened) : Type 0 where
+  pub record RunsTo (masters most : ℕ) (u : BusModel hs ds) (text : List ℕ) (end : Listened) :
+      Type 0 where
     pub ticks : ℕ
     pub bounded : ticks ≤ most
     pub ran : Runs masters ticks u text end
     pub over : (ticks ≡ most) ⊎ (is_at_rest hs ds end.bus ≡ true)
 
   -- the one run from u: whatever the devices answer, there is no other
-  pub record OnlyRun (masters most : ℕ) (u : BusModel hs ds) (text : List ℕ) (end : Listened) : Type 0 where
+  pub record OnlyRun (masters most : ℕ) (u : BusModel hs ds) (text : List ℕ) (end : Listened) :
+      Type 0 where
     pub run : RunsTo masters most u text end
-    pub only : (other : List ℕ) (last : Listened) → RunsTo masters most u other last → (other ≡ text) × (last ≡ end)
+    pub only : (other : List ℕ) (last : Listened) → RunsTo masters most u other last →
+        (other ≡ text) × (last ≡ end)
 
   module _ {W : Type 0} (takes : W → List ℕ → W → Type 0) where
     -- a run from u to v of which all lines are written
@@ -70,7 +77,8 @@ module _ (hs : List HostBehaviour) (ds : List Behaviour) where
       pub bus : v ≡ end.bus
 
     -- the lines of so many ticks are written, the next tick is made, and the writing of its lines fails with e
-    pub record PrintsPart (fails : W → List ℕ → Error → W → Type 0) (masters most : ℕ) (u v : BusModel hs ds) (out after : W) (e : Error) : Type 0 where
+    pub record PrintsPart (fails : W → List ℕ → Error → W → Type 0) (masters most : ℕ)
+        (u v : BusModel hs ds) (out after : W) (e : Error) : Type 0 where
       pub ticks : ℕ
       pub text : List ℕ
       pub end : Listened

@@ -9,7 +9,7 @@ use device::EventQueue;
 use host::ListHost;
 use transfer::{Refusal, Transfer};
 
-// A host that wants these transfers, one after the other.
+/// A host that wants these transfers, one after the other; more than 8 are refused.
 pub fn list_of(transfers: &[Transfer]) -> Result<ListHost, Refusal>
     ensures { answer list_host_model result ≡ full_list transfers.now }
 {
@@ -18,7 +18,7 @@ pub fn list_of(transfers: &[Transfer]) -> Result<ListHost, Refusal>
     Ok(host)
 }
 
-// A queue of these bytes, the first the oldest.
+/// A queue of these bytes, the first the oldest; more than 8 are refused.
 pub fn queue_of(bytes: &[u8]) -> Result<EventQueue, Refusal>
     ensures { answer queue_model result ≡ full_queue bytes.now }
 {

@@ -6,6 +6,7 @@ ghost use Rattle.support.specs.Output.{AppendsFront};
 
 use std::io::{self, ErrorKind, Write};
 
+/// Where bytes are put, one text after the other.
 // A trait beside std's `Write`, whose contracts do not say when a write fails: under them a program that only fails would
 // be proved. Here a failure is named, so that a function over any output fails only where `put` does.
 pub trait Output {
@@ -15,6 +16,7 @@ pub trait Output {
     // The same of a write that fails, with its error.
     ghost fails: { Self → List ℕ → Failure → Self → Type 0 };
 
+    /// Writes all of the bytes, or fails with the error of the first write that does.
     fn put(&mut self, bytes: &[u8]) -> io::Result<()>
         ensures taken { OnOk result (takes self.old bytes.now self.new) }
         ensures failed { IfErr result (λ e. fails self.old bytes.now e self.new) };

@@ -10,18 +10,21 @@ use master::Master;
 use port::Port;
 use transfer::{Address, ClockPair};
 
+/// Two masters with hosts of one make, and a register file.
 pub type PairBus<H> = Bus<(Master<H>, (Master<H>, End)), (Port<RegisterFile>, End)>;
 
-// The clock pairs of the two masters.
-#[derive(Clone, Copy)]
+/// The clock pairs of the two masters, in ticks.
+#[derive(Clone, Copy, PartialEq, Eq, Debug)]
 pub struct Clocks {
     pub first: ClockPair,
     pub second: ClockPair,
 }
 
-// The masters serve these hosts, and the register file has this address.
+/// The masters serve these hosts, and the register file has this address.
 pub fn pair_bus<H: Host + Drop>(address: Address, clocks: Clocks, first: H, second: H) -> PairBus<H>
-    ensures { bus_model result ≡ new_pair_bus H.Host.behaviour address.number clocks (H.Host.meaning first) (H.Host.meaning second) }
+    ensures { bus_model result ≡
+        new_pair_bus H.Host.behaviour address.number clocks
+        (H.Host.meaning first) (H.Host.meaning second) }
 {
     let first = Master::new(clocks.first, first);
     let second = Master::new(clocks.second, second);

@@ -1,5 +1,5 @@
-pub mod Refusal
 pub mod Limits
+pub mod Refusal
 pub mod Address
 pub mod ClockPair
 pub mod Octets

@@ -9,8 +9,9 @@ use std::marker::Model;
 pub const MOST_ITEMS: usize = 8;
 
 /// A list of up to [`MOST_ITEMS`] items, the first one first.
-// The first `count` of `slots` are the list, and those from `place` on are left. A buffer with its length: a sensor head
-// has no heap, and the kit's `ArrayVec` would ask a default of the items, which callers need not have.
+// The first `count` of `slots` are the list, and those from `place` on are left. A buffer with its
+// length: a sensor head has no heap, and the kit's `ArrayVec` needs a default of the items, which
+// callers need not have.
 #[derive(Drop)]
 pub struct Fifo<T> {
     slots: [T; MOST_ITEMS],
@@ -28,8 +29,8 @@ impl<T> Model for Fifo<T> {
 }
 
 impl<T: Copy> Fifo<T> {
-    ghost use Rattle.std.specs.Prelude.{◌≡◌, []};
-    ghost use Rattle.transfer.specs.Fifo.{fifo_after_fill, first_of, rest_of};
+    ghost use Rattle.std.specs.Prelude.{◌≡◌, [], slice_get};
+    ghost use Rattle.transfer.specs.Fifo.{fifo_after_fill};
     ghost use Rattle.transfer.specs.Refusal.{answer};
 
     /// An empty list; `filler` only takes up its room.
@@ -43,7 +44,8 @@ impl<T: Copy> Fifo<T> {
         }
     }
 
-    /// Starts a new list. One that is too long is refused, and changes nothing.
+    /// Starts a new list, in the place of what is left of the old. One that is too long is refused,
+    /// and changes nothing.
     pub fn fill(&mut self, items: &[T]) -> Result<(), Refusal>
         ensures { (answer (λ u. u) result, self.new) ≡ fifo_after_fill items.now self.old }
     {
@@ -66,14 +68,14 @@ impl<T: Copy> Fifo<T> {
 
     /// The first of the items that are left.
     pub fn first(&self) -> Option<T>
-        ensures { result ≡ first_of self.now }
+        ensures { result ≡ slice_get self.now 0 }
     {
         self.left().first().copied()
     }
 
     /// Goes on to the next item, if one is left.
     pub fn advance(&mut self)
-        ensures { self.new ≡ rest_of self.old }
+        ensures { self.new ≡ drop 1 self.old }
     {
         self.place = (self.place + 1).min(self.count);
     }

@@ -1,4 +1,8 @@
-// What is sent over the bus and what comes of it: addresses, clock counts, legs, drafts, transfers and outcomes.
+//! What is sent over the bus and what comes of it: addresses, clock counts, legs, drafts, transfers
+//! and outcomes.
+//!
+//! Times are in ticks of the bus, lengths in bytes; masters, legs and bytes are numbered from 0.
+//! Numbers are checked where a value is made: one outside the limits is refused with a [`Refusal`].
 #![tactic(auto)]
 
 mod address;

@@ -2,6 +2,7 @@
 use Rattle.std.specs.Prelude.{ℕ, ◌+◌, ◌*◌, ◌/◌, ◌%◌, ◌^◌, Bool, true, false, ◌==◌}
 use Rattle.wire.specs.declared.byte_progress.ByteProgress.{ByteProgress}
 
+-- the bit at place k, from 0 for the lowest
 abbrev pub bit_at : ℕ → ℕ → Bool
 bit_at x k = (x / 2 ^ k) % 2 == 1
 

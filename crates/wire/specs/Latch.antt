@@ -1,9 +1,9 @@
--- When a bit counts.
+-- Which bit counts at an event, and which is kept.
 use Rattle.std.specs.Prelude.{Bool, Some, None, Option}
 use Rattle.wire.specs.declared.event.Event.{Event}
 use Rattle.wire.specs.declared.event.Event.TheVariants.{Rise, Fall, Start, Stop, SteadyHigh, SteadyLow}
 
--- the level that a rise carries is a bit, and is kept for the next fall unless a start or a stop comes between
+-- the level that a rise carries is kept for the next fall, unless a start or a stop comes between
 abbrev pub latch_after : Option Bool → Event → Option Bool
 latch_after o (Rise x) = Some x
 latch_after o Fall = None

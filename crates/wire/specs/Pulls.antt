@@ -6,6 +6,7 @@ use Rattle.wire.specs.declared.pulls.Pulls.{Pulls}
 abbrev pub no_pulls : Pulls
 no_pulls = record { scl = false; sda = false }
 
+-- of two parts together
 abbrev pub pulls_or : Pulls → Pulls → Pulls
 pulls_or p q = record { scl = p.scl || q.scl; sda = p.sda || q.sda }
 

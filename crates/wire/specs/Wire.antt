@@ -8,6 +8,14 @@ use Rattle.wire.specs.declared.wire.Wire.{Wire}
 use Rattle.wire.specs.Event.{event_between}
 use Rattle.wire.specs.Latch.{latch_after, counted_bit}
 
+-- before the first tick
+abbrev pub new_wire : Wire
+new_wire = record {
+  last = record { scl = true; sda = true };
+  busy = false;
+  latch = record { level = None };
+}
+
 -- the bus is busy from a start to the next stop
 abbrev pub busy_after : Bool → Event → Bool
 busy_after b Start = true
@@ -31,6 +39,3 @@ wire_after w v = record {
   busy = busy_after w.busy (event_between w.last v);
   latch = record { level = latch_after w.latch.level (event_between w.last v) };
 }
-
-abbrev pub new_wire : Wire
-new_wire = record { last = record { scl = true; sda = true }; busy = false; latch = record { level = None } }

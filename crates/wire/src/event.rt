@@ -1,8 +1,8 @@
-// Two levels in a row give an event.
+// The event between two ticks in a row.
 use crate::levels::Levels;
 
-/// What happened on the lines from one tick to the next.
-// A start and a stop are a change of SDA while SCL is high: section 6.2 of the I2C specification 2.1.
+/// What happened on the lines from one tick to the next. A start and a stop are a change of SDA
+/// while SCL is high (I2C specification 2.1, section 6.2).
 #[derive(Clone, Copy, PartialEq, Eq, Debug)]
 pub enum Event {
     /// SCL rises; carries the new level of SDA.
@@ -13,7 +13,7 @@ pub enum Event {
     Start,
     /// SDA rises while SCL stays high.
     Stop,
-    /// SCL stays high, and so does SDA or stays low.
+    /// SCL stays high, and SDA does not change.
     SteadyHigh,
     /// SCL stays low.
     SteadyLow,

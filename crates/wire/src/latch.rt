@@ -1,7 +1,8 @@
 // When a bit counts.
 use crate::event::Event;
 
-/// The level of the last rise, until it counts at a fall or a start or a stop drops it.
+/// The level of SDA at the last rise, until it counts at a fall or a start or a stop drops it: a
+/// bit is stable as long as SCL is high (I2C specification 2.1, section 6.1).
 #[derive(Clone, Copy, PartialEq, Eq, Debug)]
 pub struct Latch {
     pub level: Option<bool>,

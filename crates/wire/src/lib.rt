@@ -1,4 +1,7 @@
-//! The two lines and what passes over them: levels, events, the bits of a byte, and the bytes that they say.
+//! The two lines, SCL and SDA, and what passes over them: pulls, levels, events, bits and bytes.
+//!
+//! All of it goes tick by tick: what the parts pull in one tick gives its levels, and these with
+//! the levels of the tick before give its event. Bytes come with the highest bit first.
 #![tactic(auto)]
 
 mod byte_progress;

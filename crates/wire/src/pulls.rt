@@ -1,9 +1,9 @@
-// What is pulled gives the levels.
+// What is pulled, and the levels that this gives.
 use crate::levels::Levels;
 
 /// Which lines a part, or some parts together, pull low.
-// A type apart from `Levels`, which has the same fields: a line that is pulled is low, and one type for both would let
-// them be mixed up.
+// A type apart from `Levels`, which has the same fields: a line that is pulled is low, and one type
+// for both would let them be mixed up.
 #[derive(Clone, Copy, PartialEq, Eq, Debug)]
 pub struct Pulls {
     pub scl: bool,
@@ -34,7 +34,8 @@ impl Pulls {
         }
     }
 
-    /// A line is high exactly where nobody pulls it: both lines are wired-AND (I2C specification 2.1, section 4).
+    /// A line is high exactly where nobody pulls it: both lines are wired-AND
+    /// (I2C specification 2.1, section 5).
     pub fn levels(self) -> Levels
         ensures { result ≡ levels_of self }
     {

@@ -1,4 +1,4 @@
-// The two lines in use: what each tick signals, and the state that it leaves.
+// The two lines in use: what each tick signals, and how it leaves them.
 use crate::event::Event;
 use crate::latch::Latch;
 use crate::levels::Levels;
@@ -6,6 +6,7 @@ use crate::levels::Levels;
 /// What every part sees of one tick.
 #[derive(Clone, Copy, PartialEq, Eq, Debug)]
 pub struct Signal {
+    /// What happened from the tick before to this one.
     pub event: Event,
     /// The bit that counts in this tick, if one does.
     pub bit: Option<bool>,
@@ -16,9 +17,11 @@ pub struct Signal {
 /// The lines as the last tick left them.
 #[derive(Clone, Copy, PartialEq, Eq, Debug)]
 pub struct Wire {
+    /// The levels of the last tick.
     pub last: Levels,
-    /// From a start to the next stop (I2C specification 2.1, section 6.2).
+    /// The bus is busy from a start to the next stop (I2C specification 2.1, section 6.2).
     pub busy: bool,
+    /// The bit that may count at the next fall.
     pub latch: Latch,
 }
 
@@ -40,7 +43,7 @@ impl Wire {
         }
     }
 
-    /// The lines take these levels.
+    /// The lines take these levels in the next tick.
     pub fn step(&mut self, levels: Levels) -> Signal
         ensures answer { result ≡ signal self.old levels }
         ensures after { self.new ≡ wire_after self.old levels }

@@ -10,7 +10,8 @@ use Rattle.law.specs.Bank.{Bank, bank_map}
 use Rattle.law.specs.TransferResult.{AddressedDevice, DeviceInLeg, device_after_leg, leg_result, TransferResult}
 use Rattle.law.specs.TransferResult.{result_at_stop, result_after_leg, outcome_of_kind, transfer_result}
 use Rattle.master.specs.Cursor.{at_end, at_restart, in_leg, Notes, CursorModel}
-use Rattle.master.specs.Cursor.{cursor_at, new_cursor, outcome_of, reported_bytes}
+use Rattle.master.specs.Cursor.{cursor_at, new_cursor, outcome_of}
+use Rattle.transfer.specs.Outcome.{reported_bytes}
 use Rattle.port.specs.Port.{PortModel}
 use Rattle.master.specs.Script.{transfers}
 use Rattle.law.specs.Letter.{Letter, stop, restart, bit_letter}

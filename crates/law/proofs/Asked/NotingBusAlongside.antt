@@ -1,5 +1,7 @@
--- A use of the bus, and beside it the use of the same bus over devices that note their steps: both go the same way, and since a turn opened the devices have noted what was asked in it.
-use Rattle.std.proofs.Common.{◌≡◌, ℕ, suc, Bool, true, false, cond, ◌||◌, ◌⊎◌, List, [], ◌∷◌, ◌++◌, append-nil, ap₂, length, Option, sym, refl, ap, ◌∙◌, subst, inl, inr, arith}
+-- Beside each use of a bus goes one of a bus of noting devices, which have noted what was asked since the turn opened.
+use Rattle.std.proofs.Common.{◌≡◌, ℕ, zero, suc, Bool, false, cond, ◌||◌, ltb, ◌⊎◌, List, [], ◌∷◌, ◌++◌, append-nil}
+use Rattle.std.proofs.Common.{ap₂, length, Option, sym, refl, ap, ◌∙◌, subst, inl, inr, arith}
+use Rattle.std.proofs.lemmas.Bool.{cond_both}
 use Rattle.transfer.specs.Outcome.{OutcomeModel}
 use Rattle.device.specs.Device.{Behaviour, Step}
 use Rattle.host.specs.Host.{HostBehaviour}
@@ -8,33 +10,56 @@ use Rattle.port.specs.declared.port.Mode.{Mode}
 use Rattle.port.specs.Port.{steps_asked, PortModel, port_after_bit, port_after_event as port_sees, reset_port}
 use Rattle.wire.specs.declared.event.Event.{Event}
 use Rattle.wire.specs.declared.event.Event.TheVariants.{Rise, Fall, Start, Stop, SteadyHigh, SteadyLow}
+use Rattle.wire.specs.declared.levels.Levels.{Levels}
 use Rattle.wire.specs.declared.wire.Signal.{Signal}
 use Rattle.wire.specs.Pulls.{pulls_or, levels_of}
 use Rattle.wire.specs.Event.{event_between}
 use Rattle.wire.specs.Wire.{signal, wire_after, busy_after}
-use Rattle.law.specs.AskedLaw.{all_noting_steps, all_steps}
+use Rattle.law.specs.AskedLaw.{all_noting_steps, all_steps, addresses}
 use Rattle.law.specs.Bank.{Bank, bank_map, bank_list, any_true}
-use Rattle.law.specs.Book.{Entry, entry_is_armed, entry_contending, entries_after_turn, arm_entry_at, Turn, closed, opened, is_open, Book, book_after_opening, told_at_stop, book_after_stop, book_told, book_after}
-use Rattle.law.specs.Bus.{all_pulls, HoldAnswers, ports_step, BusModel, arm_at, levels_at, after_levels, tick_at, told_at, ClocksInRange}
-use Rattle.law.specs.TransferResult.{AddressedDevice}
+use Rattle.law.specs.Book.{Entry, entry_is_armed, entry_contending, entries_after_turn, arm_entry_at, Turn, closed}
+use Rattle.law.specs.Book.{opened, is_open, Book, book_told, book_after}
+use Rattle.law.specs.Bus.{all_pulls, HoldAnswers, ports_step, BusModel, arm_at, levels_at, after_levels, tick_at}
+use Rattle.law.specs.Bus.{told_at, is_at_rest, ClocksInRange}
 use Rattle.law.specs.Monitor.{Monitor, new_monitor, monitor_after_event, monitor_after_marks}
-use Rattle.law.specs.Use.{lists_appended, Call, arms, ticks, Use, event_at, marks_of, steps_at, no_steps, steps_then, use_after_tick, use_after_call, use_after, addressed_device, new_use}
+use Rattle.law.specs.Use.{lists_appended, Call, arms, ticks, runs, Use, event_at, marks_of, steps_at, no_steps}
+use Rattle.law.specs.Use.{steps_then, use_after_tick, use_after_ticks, use_after_call, use_after, addressed_device}
+use Rattle.law.specs.Use.{new_use}
 use Rattle.law.specs.Law.{Law}
-use Rattle.law.proofs.Alone.PortsAsSide.{unheld, idle_ports}
-use Rattle.law.proofs.Asked.RecordAfterA.{noted_by}
-use Rattle.law.proofs.Machine.InvariantSays.{stands_at_rest}
-use Rattle.law.proofs.Bus.CallsKeep.{calls_keep}
-use Rattle.law.proofs.Bus.EveryUseLawful.{every_use_lawful, every_use_stands}
-use Rattle.law.proofs.Bus.BookAsMachine.{contenders, turn_if}
-use Rattle.law.proofs.Asked.DeviceMaps.{pulls_to, port_places, device_places}
-use Rattle.law.proofs.Asked.NotesAreAsks.{longer_longer, length_longer, forgetting, bare_devices, bare_ports, length_noted, noted_unheld, noted_idle, bare_placed, same_holds, steps_noted, steps_bare, with_notes, new_bare}
-use Rattle.law.proofs.Bus.UseKeepsInvariant.{StandsAt}
-use Rattle.law.proofs.Bus.TransfersAsGame.{game}
+use Rattle.law.specs.Limits.{most_ticks}
+use Rattle.law.proofs.Asked.DeviceMaps.{pulls_to, devices_at, devices_at_to, port_addresses, device_addresses}
+use Rattle.law.proofs.Asked.DeviceMaps.{same_addresses, devices_of_idle}
+use Rattle.law.proofs.Asked.NotesAreAsks.{NotingDevices, lists_appended_assoc, length_lists_appended, forgetting}
+use Rattle.law.proofs.Asked.NotesAreAsks.{bare_devices, bare_ports, noted_by, length_noted, noted_unheld, same_holds}
+use Rattle.law.proofs.Asked.NotesAreAsks.{steps_noted, steps_bare, with_notes, new_bare}
+use Rattle.law.proofs.Asked.PointsOfUse.{AtRest, Standing, after_calls, then_one, law_holds, stands_holds, law_then}
+use Rattle.law.proofs.Asked.PointsOfUse.{stands_then}
+
+-- what arms and ticks keep, calls keep
+module _ (hs : List HostBehaviour) (ds : List Behaviour) (P : Use hs ds → Type 0)
+    (armed : (x : Use hs ds) (n : ℕ) → P x → P (use_after_call hs ds x (arms n)))
+    (ticked : (x : Use hs ds) (a : HoldAnswers ds) → P x → P (use_after_tick hs ds x a)) where
+  run_keeps : (n k : ℕ) (a : ℕ → HoldAnswers ds) (x : Use hs ds) → P x → P (use_after_ticks hs ds n k a x)
+  run_keeps zero k a x p = p
+  run_keeps (suc n) k a x p = let y = use_after_tick hs ds x (a k) in
+      cond_both (is_at_rest hs ds x.bus) x (use_after_ticks hs ds n (suc k) a y) P
+      (λ e. p) (λ e. run_keeps n (suc k) a y (ticked x (a k) p))
+
+  call_keeps : (x : Use hs ds) (c : Call hs ds) → P x → P (use_after_call hs ds x c)
+  call_keeps x (arms n) p = armed x n p
+  call_keeps x (ticks a) p = ticked x a p
+  call_keeps x (runs n a) p =
+      cond_both (ltb most_ticks n) x (use_after_ticks hs ds n 0 a x) P (λ e. p) (λ e. run_keeps n 0 a x p)
+
+  calls_keep : (x : Use hs ds) (cs : List (Call hs ds)) → P x → P (use_after hs ds x cs)
+  calls_keep x [] p = p
+  calls_keep x (c ∷ cs) p = calls_keep (use_after_call hs ds x c) cs (call_keeps x c p)
 
 module _ (hs : List HostBehaviour) where
   -- the entries and the turn after a tick, by what they were and who is told
   abbrev entries_after : Bank Entry hs → Turn → Event → List (Option OutcomeModel) → Bank Entry hs
-  entries_after es v SteadyHigh ts = cond (is_open v) es (cond (any_true (bank_list entry_is_armed hs es)) (bank_map entry_contending hs es) es)
+  entries_after es v SteadyHigh ts =
+      cond (is_open v) es (cond (any_true (bank_list entry_is_armed hs es)) (bank_map entry_contending hs es) es)
   entries_after es v Stop ts = cond (is_open v) (entries_after_turn hs es ts) es
   entries_after es v (Rise x) ts = es
   entries_after es v Fall ts = es
@@ -49,92 +74,39 @@ module _ (hs : List HostBehaviour) where
   turn_after es v Start = v
   turn_after es v SteadyLow = v
 
-  abbrev watched_by : Monitor → Turn → Turn → Bank Entry hs → Event → Monitor
-  watched_by w v u es e = cond (is_open v) (monitor_after_event w e) (cond (is_open u) (new_monitor (bank_list (λ h x. false) hs es)) (monitor_after_event w e))
+  -- the monitor after a tick in turn v that leaves turn u
+  abbrev monitored : Monitor → Turn → Turn → Bank Entry hs → Event → Monitor
+  monitored w v u es e = cond (is_open v) (monitor_after_event w e)
+      (cond (is_open u) (new_monitor (bank_list (λ h x. false) hs es)) (monitor_after_event w e))
 
+  -- no turn is open after a stop
   not_stop : (es : Bank Entry hs) (v : Turn) (e : Event) → turn_after es v e ≡ opened → e ≡ Stop → ⊥
   not_stop es v e h k = let z : opened ≡ closed = sym h ∙ ap (turn_after es v) k in cc
 
 module _ (hs : List HostBehaviour) (ds : List Behaviour) where
-  pub one_more : (x : Use hs ds) (cs : List (Call hs ds)) (c : Call hs ds) → use_after hs ds x (cs ++ (c ∷ [])) ≡ use_after_call hs ds (use_after hs ds x cs) c
-  one_more x [] c = refl
-  one_more x (b ∷ cs) c = one_more (use_after_call hs ds x b) cs c
+  -- the book's entries and turn go by these
+  entries_are : (b : Book hs ds) (e : Event) →
+      (book_after hs ds b e).entries ≡ entries_after hs b.entries b.turn e (book_told hs ds b e)
+  entries_are b e = grind arith
 
-  abbrev opening : Book hs ds → Book hs ds
-  opening b = record { entries = bank_map entry_contending hs b.entries; devices = b.devices; turn = opened }
-
-  opens_entries : (b : Book hs ds) (v : Turn) → (book_after_opening hs ds b v).entries ≡ entries_after hs b.entries v SteadyHigh []
-  opens_entries b opened = refl
-  opens_entries b closed = go (any_true (bank_list entry_is_armed hs b.entries)) where
-    go : (w : Bool) → (cond w (opening b) b).entries ≡ cond w (bank_map entry_contending hs b.entries) b.entries
-    go true = refl
-    go false = refl
-
-  opens_turn : (b : Book hs ds) (v : Turn) → b.turn ≡ v → (book_after_opening hs ds b v).turn ≡ turn_after hs b.entries v SteadyHigh
-  opens_turn b opened e = e
-  opens_turn b closed e = go (any_true (bank_list entry_is_armed hs b.entries)) where
-    go : (w : Bool) → (cond w (opening b) b).turn ≡ cond w opened closed
-    go true = refl
-    go false = e
-
-  closes_entries : (b : Book hs ds) (v : Turn) → (book_after_stop hs ds b v).entries ≡ cond (is_open v) (entries_after_turn hs b.entries (told_at_stop hs ds b v)) b.entries
-  closes_entries b opened = refl
-  closes_entries b closed = refl
-
-  closes_turn : (b : Book hs ds) (v : Turn) → b.turn ≡ v → (book_after_stop hs ds b v).turn ≡ closed
-  closes_turn b opened e = refl
-  closes_turn b closed e = e
-
-  pub entries_are : (b : Book hs ds) (e : Event) → (book_after hs ds b e).entries ≡ entries_after hs b.entries b.turn e (book_told hs ds b e)
-  entries_are b SteadyHigh = opens_entries b b.turn
-  entries_are b Stop = closes_entries b b.turn
-  entries_are b (Rise x) = refl
-  entries_are b Fall = refl
-  entries_are b Start = refl
-  entries_are b SteadyLow = refl
-
-  pub turn_is : (b : Book hs ds) (e : Event) → (book_after hs ds b e).turn ≡ turn_after hs b.entries b.turn e
-  turn_is b SteadyHigh = opens_turn b b.turn refl
-  turn_is b Stop = closes_turn b b.turn refl
-  turn_is b (Rise x) = refl
-  turn_is b Fall = refl
-  turn_is b Start = refl
-  turn_is b SteadyLow = refl
+  turn_is : (b : Book hs ds) (e : Event) → (book_after hs ds b e).turn ≡ turn_after hs b.entries b.turn e
+  turn_is b e = grind arith
 
   -- only a stop that closes a turn changes the devices
-  opens_devices : (b : Book hs ds) (v : Turn) → (book_after_opening hs ds b v).devices ≡ b.devices
-  opens_devices b opened = refl
-  opens_devices b closed = go (any_true (bank_list entry_is_armed hs b.entries)) where
-    go : (w : Bool) → (cond w (opening b) b).devices ≡ b.devices
-    go true = refl
-    go false = refl
-
-  pub devices_stay : (b : Book hs ds) (e : Event) → (e ≡ Stop → ⊥) → (book_after hs ds b e).devices ≡ b.devices
-  devices_stay b SteadyHigh n = opens_devices b b.turn
-  devices_stay b Stop n = absurd (n refl)
-  devices_stay b (Rise x) n = refl
-  devices_stay b Fall n = refl
-  devices_stay b Start n = refl
-  devices_stay b SteadyLow n = refl
+  devices_stay : (b : Book hs ds) (e : Event) → (e ≡ Stop → ⊥) → (book_after hs ds b e).devices ≡ b.devices
+  devices_stay b e n = grind arith
 
 is_stop : (e : Event) → (e ≡ Stop) ⊎ (e ≡ Stop → ⊥)
-is_stop Stop = inl refl
-is_stop SteadyHigh = inr (λ e. cc)
-is_stop (Rise x) = inr (λ e. cc)
-is_stop Fall = inr (λ e. cc)
-is_stop Start = inr (λ e. cc)
-is_stop SteadyLow = inr (λ e. cc)
+is_stop e = grind arith
 
--- where no turn is open the ports, but for what they hold, are those of the book's devices
-pub ports_at_rest : (hs : List HostBehaviour) (ds : List Behaviour) (x : Use hs ds) → StandsAt hs ds x → x.book.turn ≡ closed → bank_map unheld ds x.bus.ports ≡ idle_ports ds x.book.devices
-ports_at_rest hs ds x st e =
-    stands_at_rest (game ds) st.1 (ap (λ v. turn_if v (contenders hs x.book.entries)) e)
+-- nothing behind leaves a list as it is
+lists_appended_nothing : (ds : List Behaviour) (d : NotingDevices ds) (p : Bank PortModel ds) →
+    lists_appended (all_steps ds d) (bank_list (λ b q. []) ds p) ≡ all_steps ds d
+lists_appended_nothing [] d p = refl
+lists_appended_nothing (b ∷ ds) d p = ap₂ ◌∷◌ (append-nil d.0.meaning.steps) (lists_appended_nothing ds d.1 p.1)
 
-longer_nothing : (ds : List Behaviour) (d : Bank AddressedDevice (all_noting_steps ds)) (p : Bank PortModel ds) → lists_appended (all_steps ds d) (bank_list (λ b q. []) ds p) ≡ all_steps ds d
-longer_nothing [] d p = refl
-longer_nothing (b ∷ ds) d p = ap₂ ◌∷◌ (append-nil d.0.meaning.steps) (longer_nothing ds d.1 p.1)
-
-length_listed : (X : Type 0) (f : (b : Behaviour) → PortModel b → X) (ds : List Behaviour) (p : Bank PortModel ds) → length (bank_list f ds p) ≡ length ds
+length_listed : (X : Type 0) (f : (b : Behaviour) → PortModel b → X) (ds : List Behaviour) (p : Bank PortModel ds) →
+    length (bank_list f ds p) ≡ length ds
 length_listed X f [] p = refl
 length_listed X f (b ∷ ds) p = ap suc (length_listed X f ds p.1)
 
@@ -146,28 +118,30 @@ module _ (b : Behaviour) where
   port_stays : (p : PortModel b) (e : Event) (o : Option Bool) (n : ℕ) → (port_sees b p e o n).address ≡ p.address
   port_stays p e o n = grind (arith, bit_stays p p.mode)
 
-pub ports_stay : (ds : List Behaviour) (p : Bank PortModel ds) (s : Signal) (a : HoldAnswers ds) → port_places ds (ports_step ds p s a) ≡ port_places ds p
+pub ports_stay : (ds : List Behaviour) (p : Bank PortModel ds) (s : Signal) (a : HoldAnswers ds) →
+    port_addresses ds (ports_step ds p s a) ≡ port_addresses ds p
 ports_stay [] p s a = refl
 ports_stay (b ∷ ds) p s a = λ i. port_stays b p.0 s.event s.bit a.0.0 i ∷ ports_stay ds p.1 s a.1 i
 
-pub places_of : (ds : List Behaviour) (p : Bank PortModel ds) → device_places ds (bank_map addressed_device ds p) ≡ port_places ds p
-places_of [] p = refl
-places_of (b ∷ ds) p = ap (λ l. p.0.address ∷ l) (places_of ds p.1)
-
 module _ (hs : List HostBehaviour) (ds : List Behaviour) where
-  abbrev pub es : List Behaviour
+  abbrev es : List Behaviour
   es = all_noting_steps ds
 
   -- the bus without the notes
-  abbrev pub bare : BusModel hs es → BusModel hs ds
+  abbrev bare : BusModel hs es → BusModel hs ds
   bare u = record { wire = u.wire; masters = u.masters; ports = bare_ports ds u.ports }
 
   levels_bare : (u : BusModel hs es) → levels_at hs es u ≡ levels_at hs ds (bare u)
-  levels_bare u = ap (λ q. levels_of (pulls_or (all_pulls (bank_list hosted_pulls hs u.masters)) q)) (sym (pulls_to es ds (forgetting ds) u.ports))
+  levels_bare u = ap (λ q. levels_of (pulls_or (all_pulls (bank_list hosted_pulls hs u.masters)) q))
+      (sym (pulls_to (forgetting ds) u.ports))
 
-  tick_bare : (u : BusModel hs es) (a : HoldAnswers ds) → bare (tick_at hs es u (same_holds ds a)).1 ≡ (tick_at hs ds (bare u) a).1
-  tick_bare u a = let v = levels_at hs es u in
-      ap (λ p. record { wire = wire_after u.wire v; masters = bank_map (λ h. hosted_step h (signal u.wire v)) hs u.masters; ports = p }) (steps_bare ds u.ports (signal u.wire v) a)
+  tick_bare : (u : BusModel hs es) (a : HoldAnswers ds) →
+      bare (tick_at hs es u (same_holds ds a)).1 ≡ (tick_at hs ds (bare u) a).1
+  tick_bare u a =
+      let v = levels_at hs es u in
+      let masters = bank_map (λ h. hosted_step h (signal u.wire v)) hs u.masters in
+      ap (λ p. record { wire = wire_after u.wire v; masters = masters; ports = p })
+      (steps_bare (signal u.wire v) ds u.ports a)
       ∙ ap (λ w. after_levels hs ds (bare u) w a) (levels_bare u)
 
   event_bare : (u : BusModel hs es) → event_at hs es u ≡ event_at hs ds (bare u)
@@ -180,8 +154,13 @@ module _ (hs : List HostBehaviour) (ds : List Behaviour) where
   told_bare u = ap (λ v. bank_list (λ h. hosted_told h (signal u.wire v)) hs u.masters) (levels_bare u)
 
   -- what is noted in a tick
-  noted_bare : (u : BusModel hs es) (a : HoldAnswers ds) → noted_by ds (tick_at hs es u (same_holds ds a)).1.ports ≡ lists_appended (noted_by ds u.ports) (steps_at hs ds (bare u))
-  noted_bare u a = steps_noted ds u.ports (signal u.wire (levels_at hs es u)) a ∙ ap (λ v. lists_appended (noted_by ds u.ports) (bank_list (λ b q. steps_asked b q (signal u.wire v)) ds (bare_ports ds u.ports))) (levels_bare u)
+  noted_bare : (u : BusModel hs es) (a : HoldAnswers ds) →
+      noted_by ds (tick_at hs es u (same_holds ds a)).1.ports ≡
+      lists_appended (noted_by ds u.ports) (steps_at hs ds (bare u))
+  noted_bare u a =
+      let asked = λ (v : Levels). bank_list (λ b q. steps_asked b q (signal u.wire v)) ds (bare_ports ds u.ports) in
+      steps_noted (signal u.wire (levels_at hs es u)) ds u.ports a
+      ∙ ap (λ v. lists_appended (noted_by ds u.ports) (asked v)) (levels_bare u)
 
   abbrev asked_so_far : Use hs ds → List (List Step)
   asked_so_far x = cond (is_open x.book.turn) x.asked (no_steps hs ds x.bus)
@@ -193,7 +172,7 @@ module _ (hs : List HostBehaviour) (ds : List Behaviour) where
     pub turn : y.book.turn ≡ x.book.turn
     pub devices : bare_devices ds y.book.devices ≡ x.book.devices
     pub watch : y.watch ≡ x.watch
-    pub places : port_places ds x.bus.ports ≡ device_places ds x.book.devices
+    pub placed : addresses hs ds x ≡ device_addresses ds x.book.devices
     pub many : length x.asked ≡ length ds
     -- since the turn opened
     pub noted : noted_by ds y.bus.ports ≡ lists_appended (all_steps ds y.book.devices) (asked_so_far x)
@@ -208,29 +187,35 @@ module _ (hs : List HostBehaviour) (ds : List Behaviour) where
     pub same_told : told_at hs es y.bus ≡ told_at hs ds x.bus
     same_told = told_bare y.bus ∙ ap (told_at hs ds) s.bus
 
-    same_tells : Law hs es y → Law hs ds x → book_told hs es y.book (event_at hs es y.bus) ≡ book_told hs ds x.book (event_at hs ds x.bus)
-    same_tells ly lx = sym ly.tick.tells ∙ (same_told ∙ lx.tick.tells)
-
     long : length (asked_so_far x) ≡ length ds
-    long = go x.book.turn where
-      go : (v : Turn) → length (cond (is_open v) x.asked (no_steps hs ds x.bus)) ≡ length ds
-      go opened = s.many
-      go closed = length_listed (List Step) (λ b p. []) ds x.bus.ports
+    long = cond_both (is_open x.book.turn) x.asked (no_steps hs ds x.bus) (λ l. length l ≡ length ds)
+        (λ i. s.many) (λ i. length_listed (List Step) (λ b p. []) ds x.bus.ports)
 
     pub asked_many : length (steps_then hs ds x) ≡ length ds
-    asked_many = length_longer (asked_so_far x) (steps_at hs ds x.bus) ∙ long
+    asked_many = length_lists_appended (asked_so_far x) (steps_at hs ds x.bus) ∙ long
 
     -- in the next tick too
-    pub asked_noted : (a : HoldAnswers ds) → noted_by ds (tick_at hs es y.bus (same_holds ds a)).1.ports ≡ lists_appended (all_steps ds y.book.devices) (steps_then hs ds x)
-    asked_noted a = noted_bare y.bus a ∙ (ap (λ u. lists_appended (noted_by ds y.bus.ports) (steps_at hs ds u)) s.bus
-        ∙ (ap (λ l. lists_appended l (steps_at hs ds x.bus)) s.noted ∙ longer_longer (all_steps ds y.book.devices) (asked_so_far x) (steps_at hs ds x.bus) (let z = long in let w = length_noted ds y.book.devices in omega arith)))
+    pub asked_noted : (a : HoldAnswers ds) → noted_by ds (tick_at hs es y.bus (same_holds ds a)).1.ports ≡
+        lists_appended (all_steps ds y.book.devices) (steps_then hs ds x)
+    asked_noted a =
+        let ss = all_steps ds y.book.devices in
+        let now = steps_at hs ds x.bus in
+        noted_bare y.bus a
+        ∙ (ap (λ u. lists_appended (noted_by ds y.bus.ports) (steps_at hs ds u)) s.bus
+        ∙ (ap (λ l. lists_appended l now) s.noted
+        ∙ lists_appended_assoc ss (asked_so_far x) now
+        (let z = long in let w = length_noted ds y.book.devices in omega arith)))
 
   -- at rest nothing is noted but what the book's devices have
-  noted_at_rest : (y : Use hs es) (x : Use hs ds) → y.book.turn ≡ closed → x.book.turn ≡ closed → StandsAt hs es y → noted_by ds y.bus.ports ≡ lists_appended (all_steps ds y.book.devices) (asked_so_far x)
-  noted_at_rest y x e f st =
+  noted_at_rest : (y : Use hs es) (x : Use hs ds) → y.book.turn ≡ closed → x.book.turn ≡ closed → AtRest hs es y →
+      noted_by ds y.bus.ports ≡ lists_appended (all_steps ds y.book.devices) (asked_so_far x)
+  noted_at_rest y x e f rests =
+      let ss = all_steps ds y.book.devices in
+      let asked = λ (v : Turn). cond (is_open v) x.asked (no_steps hs ds x.bus) in
       sym (noted_unheld ds y.bus.ports)
-      ∙ (ap (noted_by ds) (ports_at_rest hs es y st e)
-      ∙ (noted_idle ds y.book.devices ∙ (sym (longer_nothing ds y.book.devices x.bus.ports) ∙ ap (λ v. lists_appended (all_steps ds y.book.devices) (cond (is_open v) x.asked (no_steps hs ds x.bus))) (sym f))))
+      ∙ (ap (noted_by ds) (rests e)
+      ∙ (ap (all_steps ds) (devices_of_idle es y.book.devices)
+      ∙ (sym (lists_appended_nothing ds y.book.devices x.bus.ports) ∙ ap (λ v. lists_appended ss (asked v)) (sym f))))
 
   module _ (y : Use hs es) (x : Use hs ds) (n : ℕ) (s : Alongside y x) where
     armed_alongside : Alongside (use_after_call hs es y (arms n)) (use_after_call hs ds x (arms n))
@@ -240,13 +225,25 @@ module _ (hs : List HostBehaviour) (ds : List Behaviour) where
       turn = s.turn;
       devices = s.devices;
       watch = s.watch;
-      places = s.places;
+      placed = s.placed;
       many = s.many;
       noted = s.noted;
     }
 
-  module _ (y : Use hs es) (x : Use hs ds) (a : HoldAnswers ds) (s : Alongside y x) (ly : Law hs es y) (lx : Law hs ds x)
-      (ny : Law hs es (use_after_tick hs es y (same_holds ds a))) (nx : Law hs ds (use_after_tick hs ds x a)) (st : StandsAt hs es (use_after_tick hs es y (same_holds ds a))) where
+  -- a use, that of the noting bus beside it, and what holds of both here and after a tick
+  pub record SideBySide (y : Use hs es) (x : Use hs ds) (a : HoldAnswers ds) : Type 0 where
+    pub alongside : Alongside y x
+    pub law_here : Law hs ds x
+    pub law_next : Law hs ds (use_after_tick hs ds x a)
+    pub at_rest : AtRest hs ds x
+    pub noting_law_here : Law hs es y
+    pub noting_law_next : Law hs es (use_after_tick hs es y (same_holds ds a))
+    pub noting_stands : Standing hs es (use_after_tick hs es y (same_holds ds a))
+
+  module _ (y : Use hs es) (x : Use hs ds) (a : HoldAnswers ds) (both : SideBySide y x a) where
+    abbrev s : Alongside y x
+    s = both.alongside
+
     abbrev then : Use hs es
     then = use_after_tick hs es y (same_holds ds a)
 
@@ -262,39 +259,53 @@ module _ (hs : List HostBehaviour) (ds : List Behaviour) where
     g : e ≡ f
     g = same_event y x s
 
+    same_tells : book_told hs es y.book e ≡ book_told hs ds x.book f
+    same_tells = sym both.noting_law_here.tick.tells ∙ (same_told y x s ∙ both.law_here.tick.tells)
+
     bus : bare then.bus ≡ now.bus
     bus = tick_bare y.bus a ∙ ap (λ u. (tick_at hs ds u a).1) s.bus
 
     entries : then.book.entries ≡ now.book.entries
-    entries = entries_are hs es y.book e ∙ ((λ i. entries_after hs (s.entries i) (s.turn i) (g i) (same_tells y x s ly lx i)) ∙ sym (entries_are hs ds x.book f))
+    entries = entries_are hs es y.book e
+        ∙ ((λ i. entries_after hs (s.entries i) (s.turn i) (g i) (same_tells i)) ∙ sym (entries_are hs ds x.book f))
 
     turn : then.book.turn ≡ now.book.turn
     turn = turn_is hs es y.book e ∙ ((λ i. turn_after hs (s.entries i) (s.turn i) (g i)) ∙ sym (turn_is hs ds x.book f))
 
     watch : then.watch ≡ now.watch
-    watch = λ i. monitor_after_marks (watched_by hs (s.watch i) (s.turn i) (turn i) (s.entries i) (g i)) (same_marks y x s i)
+    watch = λ i. monitor_after_marks
+        (monitored hs (s.watch i) (s.turn i) (turn i) (s.entries i) (g i)) (same_marks y x s i)
 
-    free : {F : List Behaviour} → (u : BusModel hs F) → event_at hs F u ≡ Stop → busy_after u.wire.busy (event_at hs F u) ≡ false
+    free : {F : List Behaviour} → (u : BusModel hs F) → event_at hs F u ≡ Stop →
+        busy_after u.wire.busy (event_at hs F u) ≡ false
     free u k = ap (busy_after u.wire.busy) k
 
     devices : bare_devices ds then.book.devices ≡ now.book.devices
     devices = elim (is_stop e) [
-      | inl k ↦ ap (bare_devices ds) (sym (ny.point.devices (free y.bus k))) ∙ (bare_placed ds then.bus.ports ∙ (ap (λ u. bank_map addressed_device ds u.ports) bus ∙ nx.point.devices (free x.bus (sym g ∙ k))))
-      | inr k ↦ ap (bare_devices ds) (devices_stay hs es y.book e k) ∙ (s.devices ∙ sym (devices_stay hs ds x.book f (λ j. k (g ∙ j))))
+      | inl k ↦ ap (bare_devices ds) (sym (both.noting_law_next.point.devices (free y.bus k)))
+          ∙ (sym (devices_at_to (forgetting ds) then.bus.ports)
+          ∙ (ap (λ u. devices_at ds u.ports) bus ∙ both.law_next.point.devices (free x.bus (sym g ∙ k))))
+      | inr k ↦ ap (bare_devices ds) (devices_stay hs es y.book e k)
+          ∙ (s.devices ∙ sym (devices_stay hs ds x.book f (λ j. k (g ∙ j))))
     ]
 
-    places : port_places ds now.bus.ports ≡ device_places ds now.book.devices
-    places = elim (is_stop f) [
-      | inl k ↦ sym (places_of ds now.bus.ports) ∙ ap (device_places ds) (nx.point.devices (free x.bus k))
-      | inr k ↦ ports_stay ds x.bus.ports (signal x.bus.wire (levels_at hs ds x.bus)) a ∙ (s.places ∙ ap (device_places ds) (sym (devices_stay hs ds x.book f k)))
+    placed : addresses hs ds now ≡ device_addresses ds now.book.devices
+    placed = elim (is_stop f) [
+      | inl k ↦ same_addresses ds now.bus.ports ∙ ap (device_addresses ds) (both.law_next.point.devices (free x.bus k))
+      | inr k ↦ ports_stay ds x.bus.ports (signal x.bus.wire (levels_at hs ds x.bus)) a
+          ∙ (s.placed ∙ ap (device_addresses ds) (sym (devices_stay hs ds x.book f k)))
     ]
 
-    noted_if : (v : Turn) → now.book.turn ≡ v → noted_by ds then.bus.ports ≡ lists_appended (all_steps ds then.book.devices) (asked_so_far now)
-    noted_if closed k = noted_at_rest then now (turn ∙ k) k st
+    noted_if : (v : Turn) → now.book.turn ≡ v →
+        noted_by ds then.bus.ports ≡ lists_appended (all_steps ds then.book.devices) (asked_so_far now)
+    noted_if closed k = noted_at_rest then now (turn ∙ k) k both.noting_stands.at_rest
     noted_if opened k =
         let still_open = sym (turn_is hs es y.book e) ∙ (turn ∙ k) in
-        asked_noted y x s a ∙ (ap (λ d. lists_appended (all_steps ds d) (steps_then hs ds x)) (sym (devices_stay hs es y.book e (not_stop hs y.book.entries y.book.turn e still_open)))
-        ∙ ap (λ v. lists_appended (all_steps ds then.book.devices) (cond (is_open v) now.asked (no_steps hs ds now.bus))) (sym k))
+        let same = devices_stay hs es y.book e (not_stop hs y.book.entries y.book.turn e still_open) in
+        let asked = λ (v : Turn). cond (is_open v) now.asked (no_steps hs ds now.bus) in
+        asked_noted y x s a
+        ∙ (ap (λ d. lists_appended (all_steps ds d) (steps_then hs ds x)) (sym same)
+        ∙ ap (λ v. lists_appended (all_steps ds then.book.devices) (asked v)) (sym k))
 
     ticked_alongside : Alongside then now
     ticked_alongside = record {
@@ -303,35 +314,41 @@ module _ (hs : List HostBehaviour) (ds : List Behaviour) where
       turn = turn;
       devices = devices;
       watch = watch;
-      places = places;
+      placed = placed;
       many = asked_many y x s;
       noted = noted_if now.book.turn refl;
     }
 
   module _ (ms : Bank HostedMaster hs) (ps : Bank PortModel ds) where
-    abbrev pub first : Use hs ds
+    abbrev first : Use hs ds
     first = new_use hs ds ms ps
 
-    abbrev pub first_noting : Use hs es
+    abbrev first_noting : Use hs es
     first_noting = new_use hs es ms (with_notes ds ps)
 
     -- a use, and the use of the noting bus beside it
     pub record Beside (x : Use hs ds) : Type 0 where
       pub calls_made : List (Call hs ds)
-      pub is : x ≡ use_after hs ds first calls_made
+      pub is : x ≡ after_calls hs ds ms ps calls_made
       pub noting_calls : List (Call hs es)
-      pub alongside : Alongside (use_after hs es first_noting noting_calls) x
+      pub alongside : Alongside (after_calls hs es ms (with_notes ds ps) noting_calls) x
 
-    first_devices : (gs : List Behaviour) (qs : Bank PortModel gs) → bare_devices gs (bank_map addressed_device (all_noting_steps gs) (with_notes gs qs)) ≡ bank_map addressed_device gs qs
+    abbrev pub noting_use : (x : Use hs ds) → Beside x → Use hs es
+    noting_use x b = after_calls hs es ms (with_notes ds ps) b.noting_calls
+
+    first_devices : (gs : List Behaviour) (qs : Bank PortModel gs) →
+        bare_devices gs (devices_at (all_noting_steps gs) (with_notes gs qs)) ≡ devices_at gs qs
     first_devices [] qs = refl
-    first_devices (b ∷ gs) qs = ap (λ r. (record { address = qs.0.address; meaning = qs.0.meaning }, r)) (first_devices gs qs.1)
+    first_devices (b ∷ gs) qs = ap (λ r. (addressed_device b qs.0, r)) (first_devices gs qs.1)
 
-    first_places : (gs : List Behaviour) (qs : Bank PortModel gs) → port_places gs (bank_map reset_port gs qs) ≡ device_places gs (bank_map addressed_device gs qs)
-    first_places [] qs = refl
-    first_places (b ∷ gs) qs = ap (λ l. qs.0.address ∷ l) (first_places gs qs.1)
+    first_addresses : (gs : List Behaviour) (qs : Bank PortModel gs) →
+        port_addresses gs (bank_map reset_port gs qs) ≡ device_addresses gs (devices_at gs qs)
+    first_addresses [] qs = refl
+    first_addresses (b ∷ gs) qs = ap (λ l. qs.0.address ∷ l) (first_addresses gs qs.1)
 
-    first_noted : (gs : List Behaviour) (qs : Bank PortModel gs) → noted_by gs (bank_map reset_port (all_noting_steps gs) (with_notes gs qs)) ≡
-        lists_appended (all_steps gs (bank_map addressed_device (all_noting_steps gs) (with_notes gs qs))) (bank_list (λ b p. []) gs (bank_map reset_port gs qs))
+    first_noted : (gs : List Behaviour) (qs : Bank PortModel gs) →
+        noted_by gs (bank_map reset_port (all_noting_steps gs) (with_notes gs qs)) ≡
+        lists_appended (noted_by gs (with_notes gs qs)) (bank_list (λ b p. []) gs (bank_map reset_port gs qs))
     first_noted [] qs = refl
     first_noted (b ∷ gs) qs = ap (λ l. [] ∷ l) (first_noted gs qs.1)
 
@@ -342,37 +359,44 @@ module _ (hs : List HostBehaviour) (ds : List Behaviour) where
       turn = refl;
       devices = first_devices ds ps;
       watch = refl;
-      places = first_places ds ps;
+      placed = first_addresses ds ps;
       many = length_listed (List Step) (λ b p. []) ds ps;
       noted = first_noted ds ps;
     }
 
+    -- one call more on each side
+    called_beside : (x : Use hs ds) (b : Beside x) (c : Call hs ds) (k : Call hs es) →
+        Alongside (use_after_call hs es (noting_use x b) k) (use_after_call hs ds x c) →
+        Beside (use_after_call hs ds x c)
+    called_beside x b c k s = record {
+      calls_made = b.calls_made ++ (c ∷ []);
+      is = ap (λ z. use_after_call hs ds z c) b.is ∙ sym (then_one hs ds ms ps b.calls_made c);
+      noting_calls = b.noting_calls ++ (k ∷ []);
+      alongside = subst (λ y. Alongside y (use_after_call hs ds x c))
+          (sym (then_one hs es ms (with_notes ds ps) b.noting_calls k)) s;
+    }
+
     module _ (clocked : ClocksInRange hs ms) where
-      law_then : (cs : List (Call hs es)) (c : Call hs es) → Law hs es (use_after_call hs es (use_after hs es first_noting cs) c)
-      law_then cs c = subst (Law hs es) (one_more hs es first_noting cs c) (every_use_lawful hs es ms (with_notes ds ps) clocked (cs ++ (c ∷ [])))
+      pub side_by_side : (x : Use hs ds) (b : Beside x) (a : HoldAnswers ds) → SideBySide (noting_use x b) x a
+      side_by_side x b a =
+          let cs = b.calls_made in
+          let ks = b.noting_calls in
+          let qs = with_notes ds ps in
+          let k = ticks (same_holds ds a) in
+          record {
+            alongside = b.alongside;
+            law_here = subst (Law hs ds) (sym b.is) (law_holds hs ds ms ps clocked cs);
+            law_next = subst (λ z. Law hs ds (use_after_tick hs ds z a)) (sym b.is)
+                (law_then hs ds ms ps clocked cs (ticks a));
+            at_rest = (subst (Standing hs ds) (sym b.is) (stands_holds hs ds ms ps clocked cs)).at_rest;
+            noting_law_here = law_holds hs es ms qs clocked ks;
+            noting_law_next = law_then hs es ms qs clocked ks k;
+            noting_stands = stands_then hs es ms qs clocked ks k;
+          }
 
       pub beside : (cs : List (Call hs ds)) → Beside (use_after hs ds first cs)
-      beside cs = calls_keep hs ds (λ m x. Beside x)
-          (λ m x n b. record {
-            calls_made = b.calls_made ++ (arms n ∷ []);
-            is = ap (λ z. use_after_call hs ds z (arms n)) b.is ∙ sym (one_more hs ds first b.calls_made (arms n));
-            noting_calls = b.noting_calls ++ (arms n ∷ []);
-            alongside = subst (λ y. Alongside y (use_after_call hs ds x (arms n))) (sym (one_more hs es first_noting b.noting_calls (arms n))) (armed_alongside (use_after hs es first_noting b.noting_calls) x n b.alongside);
-          })
-          (λ m x a b.
-          let cs = b.noting_calls in
-          let y = use_after hs es first_noting cs in
-          let c = ticks (same_holds ds a) in
-          let lx : Law hs ds x = subst (Law hs ds) (sym b.is) (every_use_lawful hs ds ms ps clocked b.calls_made) in
-          let is : use_after_tick hs ds x a ≡ use_after hs ds first (b.calls_made ++ (ticks a ∷ [])) = ap (λ z. use_after_tick hs ds z a) b.is ∙ sym (one_more hs ds first b.calls_made (ticks a)) in
-          let nx : Law hs ds (use_after_tick hs ds x a) = subst (Law hs ds) (sym is) (every_use_lawful hs ds ms ps clocked (b.calls_made ++ (ticks a ∷ []))) in
-          let st : StandsAt hs es (use_after_tick hs es y (same_holds ds a)) = subst (StandsAt hs es) (one_more hs es first_noting cs c) (every_use_stands hs es ms (with_notes ds ps) clocked (cs ++ (c ∷ []))) in
-          record {
-            calls_made = b.calls_made ++ (ticks a ∷ []);
-            is = is;
-            noting_calls = cs ++ (c ∷ []);
-            alongside = subst (λ z. Alongside z (use_after_tick hs ds x a)) (sym (one_more hs es first_noting cs c))
-                (ticked_alongside y x a b.alongside (every_use_lawful hs es ms (with_notes ds ps) clocked cs) lx (law_then cs c) nx st);
-          })
-          0 first cs
-          (record { calls_made = []; is = refl; noting_calls = []; alongside = first_alongside })
+      beside cs = calls_keep hs ds Beside
+          (λ x n b. called_beside x b (arms n) (arms n) (armed_alongside (noting_use x b) x n b.alongside))
+          (λ x a b. called_beside x b (ticks a) (ticks (same_holds ds a))
+          (ticked_alongside (noting_use x b) x a (side_by_side x b a)))
+          first cs (record { calls_made = []; is = refl; noting_calls = []; alongside = first_alongside })

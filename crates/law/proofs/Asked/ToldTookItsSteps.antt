@@ -1,19 +1,21 @@
 -- Who is told at a stop: the outcome is its own, and its steps are those that the devices take.
-use Rattle.std.proofs.Common.{◌≡◌, ℕ, zero, suc, ◌+◌, Bool, true, false, cond, not, List, [], ◌∷◌, map, Some, None, Option, sym, refl, ap, ◌∙◌, arith}
+use Rattle.std.proofs.Common.{◌≡◌, ℕ, zero, suc, ◌+◌, Bool, true, false, cond, List, [], ◌∷◌, map, Some, None, Option}
+use Rattle.std.proofs.Common.{sym, refl, ap, ◌∙◌, arith}
 use Rattle.std.specs.Prelude.{slice_index_or}
+use Rattle.std.proofs.lemmas.Option.{cond_some}
 use Rattle.std.specs.Option.{option_map}
 use Rattle.transfer.specs.Transfer.{TransferModel}
 use Rattle.transfer.specs.Outcome.{OutcomeModel}
 use Rattle.device.specs.Device.{Behaviour}
 use Rattle.host.specs.Host.{HostBehaviour}
 use Rattle.master.specs.declared.symbol.Symbol.{Symbol}
-use Rattle.master.specs.declared.symbol.Symbol.TheVariants.{Zero, One, Listen, RepeatedStart, Stop as ShowsStop}
 use Rattle.master.specs.Cursor.{new_cursor}
 use Rattle.master.specs.Script.{Script, transfers}
 use Rattle.wire.specs.declared.event.Event.{Event}
-use Rattle.wire.specs.declared.event.Event.TheVariants.{Rise, Fall, Start, Stop, SteadyHigh, SteadyLow}
+use Rattle.wire.specs.declared.event.Event.TheVariants.{Stop}
 use Rattle.law.specs.Bank.{Bank, bank_list}
-use Rattle.law.specs.Book.{Entry, outcome_if_least, outcomes_of_turn, told_at_stop, book_told, Turn, closed, opened, Book, least_result, devices_after, contender_results, book_after_stop, book_after}
+use Rattle.law.specs.Book.{Entry, outcome_if_least, outcomes_of_turn, told_at_stop, book_told, Turn, closed, opened}
+use Rattle.law.specs.Book.{Book, least_result, devices_after, contender_results, book_after_stop, book_after}
 use Rattle.law.specs.TransferResult.{AddressedDevice, TransferResult, transfer_result}
 use Rattle.law.specs.Legal.{IsLegal}
 use Rattle.law.specs.Letter.{Letter, zero as low, stop, restart, one, same_string}
@@ -43,66 +45,63 @@ module _ (D : Side) where
   last_letter one = false
 
   after_is : (x : Symbol) (s : D.S) → after D x s ≡ taken_by (letter D x s) s
-  after_is Zero s = refl
-  after_is One s = refl
-  after_is RepeatedStart s = refl
-  after_is ShowsStop s = refl
-  after_is Listen s = go (D.pulls s) where
-    go : (v : Bool) → D.bit s (not v) ≡ taken_by (cond v low one) s
-    go true = refl
-    go false = refl
+  after_is x s = grind arith
 
   ends_is : (x : Symbol) (s : D.S) → ends x ≡ last_letter (letter D x s)
-  ends_is Zero s = refl
-  ends_is One s = refl
-  ends_is RepeatedStart s = refl
-  ends_is ShowsStop s = refl
-  ends_is Listen s = go (D.pulls s) where
-    go : (v : Bool) → false ≡ last_letter (cond v low one)
-    go true = refl
-    go false = refl
+  ends_is x s = grind arith
 
 module _ (W : Script) (D : Side) where
-  ends_both : (v w : Bool) (ts us : List Letter) (p q u r : D.S) → v ≡ w → p ≡ q → cond v [] ts ≡ cond w [] us → (ts ≡ us → u ≡ r) → cond v p u ≡ cond w q r
-  ends_both true true ts us p q u r e f h k = f
-  ends_both true false ts us p q u r e f h k = cc
-  ends_both false true ts us p q u r e f h k = cc
-  ends_both false false ts us p q u r e f h k = k h
+  -- where both end alike and go on alike
+  ends_both : (v w : Bool) (ts us : List Letter) (p q u r : D.S) → v ≡ w → p ≡ q →
+      cond v [] ts ≡ cond w [] us → (ts ≡ us → u ≡ r) → cond v p u ≡ cond w q r
+  ends_both v w ts us p q u r e f h k = grind (arith, k)
 
   -- two scripts that spell the same leave the side the same
-  same_last : (n : ℕ) (c e : W.Cursor) (s : D.S) → string W D n c s ≡ string W D n e s → last W D n c s ≡ last W D n e s
+  same_last : (n : ℕ) (c e : W.Cursor) (s : D.S) →
+      string W D n c s ≡ string W D n e s → last W D n c s ≡ last W D n e s
   same_last zero c e s h = refl
   same_last (suc n) c e s h =
-      let x = W.symbol c in let y = W.symbol e in
-      let p = W.next c (heard D x s) in let q = W.next e (heard D y s) in
+      let x = W.symbol c in
+      let y = W.symbol e in
+      let u = after D x s in
+      let v = after D y s in
+      let p = W.next c (heard D x s) in
+      let q = W.next e (heard D y s) in
       let l : letter D x s ≡ letter D y s = cc in
-      let t : cond (ends x) [] (string W D n p (after D x s)) ≡ cond (ends y) [] (string W D n q (after D y s)) = cc in
-      let a : after D x s ≡ after D y s = after_is D x s ∙ (ap (λ k. taken_by D k s) l ∙ sym (after_is D y s)) in
+      let t : cond (ends x) [] (string W D n p u) ≡ cond (ends y) [] (string W D n q v) = cc in
+      let a : u ≡ v = after_is D x s ∙ (ap (λ k. taken_by D k s) l ∙ sym (after_is D y s)) in
       let d : ends x ≡ ends y = ends_is D x s ∙ (ap (last_letter D) l ∙ sym (ends_is D y s)) in
-      ends_both (ends x) (ends y) (string W D n p (after D x s)) (string W D n q (after D y s)) (after D x s) (after D y s) (last W D n p (after D x s)) (last W D n q (after D y s)) d a t
-      (λ k. ap (last W D n p) a ∙ same_last n p q (after D y s) (ap (string W D n p) (sym a) ∙ k))
+      ends_both (ends x) (ends y) (string W D n p u) (string W D n q v) u v (last W D n p u) (last W D n q v) d a t
+      (λ k. ap (last W D n p) a ∙ same_last n p q v (ap (string W D n p) (sym a) ∙ k))
 
 module _ (ds : List Behaviour) (d : Bank AddressedDevice ds) where
+  abbrev alone : TransferModel → TransferResult ds
+  alone t = transfer_result ds t d
+
   -- transfers with the same string leave the devices the same
-  same_devices : (t u : TransferModel) → IsLegal t → IsLegal u → same_string (transfer_result ds t d).letters (transfer_result ds u d).letters ≡ true → (transfer_result ds t d).devices ≡ (transfer_result ds u d).devices
+  same_devices : (t u : TransferModel) → IsLegal t → IsLegal u →
+      same_string (alone t).letters (alone u).letters ≡ true → (alone t).devices ≡ (alone u).devices
   same_devices t u j k h =
       let n = slots_left (new_cursor t) + slots_left (new_cursor u) in
       let a = carried_alone ds t d n j (omega arith) in
       let b = carried_alone ds u d n k (omega arith) in
-      let letters = same_of (transfer_result ds t d).letters (transfer_result ds u d).letters h in
-      idle_same ds (transfer_result ds t d).devices (transfer_result ds u d).devices
-      (sym a.same_devices ∙ (same_last transfers (ports_side ds) n (new_cursor t) (new_cursor u) (opened_ports ds d) (a.same_letters ∙ (letters ∙ sym b.same_letters)) ∙ b.same_devices))
+      let letters = a.same_letters ∙ (same_of (alone t).letters (alone u).letters h ∙ sym b.same_letters) in
+      idle_same ds (alone t).devices (alone u).devices
+      (sym a.same_devices
+      ∙ (same_last transfers (ports_side ds) n (new_cursor t) (new_cursor u) (opened_ports ds d) letters
+      ∙ b.same_devices))
 
-  nothing_at : (cs : List (Option (TransferResult ds))) (i : ℕ) → slice_index_or (map {B = Option OutcomeModel} (λ c. None) cs) i None ≡ None
+  -- where nobody is told
+  nothing_at : (cs : List (Option (TransferResult ds))) (i : ℕ) →
+      slice_index_or (map {B = Option OutcomeModel} (λ c. None) cs) i None ≡ None
   nothing_at [] i = refl
   nothing_at (c ∷ cs) zero = refl
   nothing_at (c ∷ cs) (suc i) = nothing_at cs i
 
-  told_one : (best c : TransferResult ds) (o : OutcomeModel) → outcome_if_least ds best (Some c) ≡ Some o → (o ≡ c.outcome) × (same_string c.letters best.letters ≡ true)
-  told_one best c o h = go (same_string c.letters best.letters) refl h where
-    go : (v : Bool) → same_string c.letters best.letters ≡ v → cond v (Some c.outcome) None ≡ Some o → (o ≡ c.outcome) × (same_string c.letters best.letters ≡ true)
-    go true e k = (let z : c.outcome ≡ o = cc in sym z, e)
-    go false e k = cc
+  -- one that is told
+  told_one : (best c : TransferResult ds) (o : OutcomeModel) → outcome_if_least ds best (Some c) ≡ Some o →
+      (o ≡ c.outcome) × (same_string c.letters best.letters ≡ true)
+  told_one best c o h = let z = cond_some (same_string c.letters best.letters) c.outcome o h in (sym z.1, z.0)
 
   -- whoever is told has the string of the best, and is told its own outcome
   record Won (q : Option (TransferResult ds)) (c : TransferResult ds) (o : OutcomeModel) : Type 0 where
@@ -111,70 +110,80 @@ module _ (ds : List Behaviour) (d : Bank AddressedDevice ds) where
     pub own : o ≡ c.outcome
     pub same : same_string c.letters best.letters ≡ true
 
-  won : (q : Option (TransferResult ds)) (cs : List (Option (TransferResult ds))) (i : ℕ) (c : TransferResult ds) (o : OutcomeModel) → slice_index_or cs i None ≡ Some c → slice_index_or (outcomes_of_turn ds q cs) i None ≡ Some o → Won q c o
+  won : (q : Option (TransferResult ds)) (cs : List (Option (TransferResult ds))) (i : ℕ) (c : TransferResult ds)
+      (o : OutcomeModel) → slice_index_or cs i None ≡ Some c →
+      slice_index_or (outcomes_of_turn ds q cs) i None ≡ Some o →
+      Won q c o
   won None cs i c o e h = let z = sym (nothing_at cs i) ∙ h in cc
   won (Some best) [] i c o e h = cc
-  won (Some best) (x ∷ cs) zero c o e h = let z = told_one best c o (ap (outcome_if_least ds best) (sym e) ∙ h) in record { best = best; leads = refl; own = z.0; same = z.1 }
+  won (Some best) (x ∷ cs) zero c o e h =
+      let z = told_one best c o (ap (outcome_if_least ds best) (sym e) ∙ h) in
+      record { best = best; leads = refl; own = z.0; same = z.1 }
   won (Some best) (x ∷ cs) (suc i) c o e h = won (Some best) cs i c o e h
 
-  lead_of : (o : Option TransferModel) (best : TransferResult ds) → LegalIf o → option_map (carry ds d) o ≡ Some best → (u : TransferModel) × IsLegal u × (best ≡ transfer_result ds u d)
+  -- the best is the result of a contender's transfer
+  lead_of : (o : Option TransferModel) (best : TransferResult ds) → LegalIf o → option_map (carry ds d) o ≡ Some best →
+      (u : TransferModel) × IsLegal u × (best ≡ alone u)
   lead_of None best k e = cc
-  lead_of (Some u) best k e = (u, k, let z : transfer_result ds u d ≡ best = cc in sym z)
+  lead_of (Some u) best k e = (u, k, let z : alone u ≡ best = cc in sym z)
 
 module _ (hs : List HostBehaviour) (ds : List Behaviour) where
-  nobody_at : (gs : List HostBehaviour) (ps : Bank Entry gs) (i : ℕ) → slice_index_or (bank_list {X = Option OutcomeModel} (λ h x. None) gs ps) i None ≡ None
+  nobody_at : (gs : List HostBehaviour) (ps : Bank Entry gs) (i : ℕ) →
+      slice_index_or (bank_list {X = Option OutcomeModel} (λ h x. None) gs ps) i None ≡ None
   nobody_at [] ps i = refl
   nobody_at (g ∷ gs) ps zero = refl
   nobody_at (g ∷ gs) ps (suc i) = nobody_at gs ps.1 i
 
+  -- master i contends for transfer t
   module _ (b : Book hs ds) (i : ℕ) (t : TransferModel) (c : at (contenders hs b.entries) i ≡ Some t) where
     abbrev own : TransferResult ds
     own = transfer_result ds t b.devices
 
+    abbrev results : List (Option (TransferResult ds))
+    results = contender_results hs ds b
+
     legal : IsLegal t
     legal = legal_at (contenders hs b.entries) i t (contenders_legal hs b.entries) c
 
-    contest : slice_index_or (contender_results hs ds b) i None ≡ Some own
-    contest = ap (λ cs. slice_index_or cs i None) (contests_of hs ds b) ∙ carried_at ds b.devices (contenders hs b.entries) i t c
-
-    stop_won : (o : OutcomeModel) (v : Turn) → slice_index_or (told_at_stop hs ds b v) i None ≡ Some o → Won ds b.devices (least_result ds (contender_results hs ds b)) own o
-    stop_won o opened h = won ds b.devices (least_result ds (contender_results hs ds b)) (contender_results hs ds b) i own o contest h
-    stop_won o closed h = let z = sym (nobody_at hs b.entries i) ∙ h in cc
-
-    tells_won : (o : OutcomeModel) (e : Event) → slice_index_or (book_told hs ds b e) i None ≡ Some o → Won ds b.devices (least_result ds (contender_results hs ds b)) own o
-    tells_won o Stop h = stop_won o b.turn h
-    tells_won o (Rise x) h = let z = sym (nobody_at hs b.entries i) ∙ h in cc
-    tells_won o Fall h = let z = sym (nobody_at hs b.entries i) ∙ h in cc
-    tells_won o Start h = let z = sym (nobody_at hs b.entries i) ∙ h in cc
-    tells_won o SteadyHigh h = let z = sym (nobody_at hs b.entries i) ∙ h in cc
-    tells_won o SteadyLow h = let z = sym (nobody_at hs b.entries i) ∙ h in cc
-
-    pub tells_own : (o : OutcomeModel) (e : Event) → slice_index_or (book_told hs ds b e) i None ≡ Some o → o ≡ (transfer_result ds t b.devices).outcome
-    tells_own o e h = (tells_won o e h).own
+    contest : slice_index_or results i None ≡ Some own
+    contest = ap (λ cs. slice_index_or cs i None) (contests_of hs ds b)
+        ∙ carried_at ds b.devices (contenders hs b.entries) i t c
 
     -- only a stop that closes a turn tells
     stop_turn : (o : OutcomeModel) (v : Turn) → slice_index_or (told_at_stop hs ds b v) i None ≡ Some o → v ≡ opened
     stop_turn o opened h = refl
     stop_turn o closed h = let z = sym (nobody_at hs b.entries i) ∙ h in cc
 
-    pub tells_at_stop : (o : OutcomeModel) (e : Event) → slice_index_or (book_told hs ds b e) i None ≡ Some o → (e ≡ Stop) × (b.turn ≡ opened)
-    tells_at_stop o Stop h = (refl, stop_turn o b.turn h)
-    tells_at_stop o (Rise x) h = let z = sym (nobody_at hs b.entries i) ∙ h in cc
-    tells_at_stop o Fall h = let z = sym (nobody_at hs b.entries i) ∙ h in cc
-    tells_at_stop o Start h = let z = sym (nobody_at hs b.entries i) ∙ h in cc
-    tells_at_stop o SteadyHigh h = let z = sym (nobody_at hs b.entries i) ∙ h in cc
-    tells_at_stop o SteadyLow h = let z = sym (nobody_at hs b.entries i) ∙ h in cc
+    pub tells_at_stop : (o : OutcomeModel) (e : Event) → slice_index_or (book_told hs ds b e) i None ≡ Some o →
+        (e ≡ Stop) × (b.turn ≡ opened)
+    tells_at_stop o e h = grind (arith, h, nobody_at hs b.entries i)
 
-    devices_then : (best : TransferResult ds) (e : Event) → e ≡ Stop → b.turn ≡ opened → least_result ds (contender_results hs ds b) ≡ Some best → (book_after hs ds b e).devices ≡ best.devices
-    devices_then best e p v l = ap (λ x. (book_after hs ds b x).devices) p ∙ (ap (λ w. (book_after_stop hs ds b w).devices) v ∙ ap (λ q. devices_after ds q b.devices) l)
+    devices_then : (best : TransferResult ds) (e : Event) → e ≡ Stop → b.turn ≡ opened →
+        least_result ds results ≡ Some best → (book_after hs ds b e).devices ≡ best.devices
+    devices_then best e p v l = ap (λ x. (book_after hs ds b x).devices) p
+        ∙ (ap (λ w. (book_after_stop hs ds b w).devices) v ∙ ap (λ q. devices_after ds q b.devices) l)
 
-    -- the devices after a stop are those after the transfer of whoever is told
-    pub devices_won : (o : OutcomeModel) (e : Event) → slice_index_or (book_told hs ds b e) i None ≡ Some o → (book_after hs ds b e).devices ≡ (transfer_result ds t b.devices).devices
-    devices_won o e h =
-        let w = tells_won o e h in
-        let z = tells_at_stop o e h in
-        let l = contenders hs b.entries in
-        let k = contenders_legal hs b.entries in
-        let u = lead_of ds b.devices (lead ds b.devices l) w.best (lead_legal ds b.devices l k) (sym (least_is ds b.devices l k) ∙ (ap (least_result ds) (sym (contests_of hs ds b)) ∙ w.leads)) in
-        devices_then w.best e z.0 z.1 w.leads ∙ (ap (λ c. c.devices) u.2
-        ∙ sym (same_devices ds b.devices t u.0 legal u.1 (ap (λ c. same_string own.letters c.letters) (sym u.2) ∙ w.same)))
+    module _ (o : OutcomeModel) (e : Event) (h : slice_index_or (book_told hs ds b e) i None ≡ Some o) where
+      tells_won : Won ds b.devices (least_result ds results) own o
+      tells_won =
+          let z = tells_at_stop o e h in
+          let open_then = ap (λ v. slice_index_or (told_at_stop hs ds b v) i None) z.1 in
+          let stop_then = ap (λ x. slice_index_or (book_told hs ds b x) i None) z.0 in
+          won ds b.devices (least_result ds results) results i own o contest (sym open_then ∙ (sym stop_then ∙ h))
+
+      pub tells_own : o ≡ (transfer_result ds t b.devices).outcome
+      tells_own = tells_won.own
+
+      -- the devices after a stop are those after the transfer of whoever is told
+      pub devices_won : (book_after hs ds b e).devices ≡ (transfer_result ds t b.devices).devices
+      devices_won =
+          let w = tells_won in
+          let z = tells_at_stop o e h in
+          let l = contenders hs b.entries in
+          let k = contenders_legal hs b.entries in
+          let leads = sym (least_is ds b.devices l k) ∙ (ap (least_result ds) (sym (contests_of hs ds b)) ∙ w.leads) in
+          let u = lead_of ds b.devices (lead ds b.devices l) w.best (lead_legal ds b.devices l k) leads in
+          devices_then w.best e z.0 z.1 w.leads
+          ∙ (ap (λ c. c.devices) u.2
+          ∙ sym (same_devices ds b.devices t u.0 legal u.1
+          (ap (λ c. same_string own.letters c.letters) (sym u.2) ∙ w.same)))

@@ -17,7 +17,7 @@ use Rattle.law.proofs.Machine.BookOfMachine.{falses, marks_too}
 pub armed_same : {A : Type 0} → (o w : Option A) → is_some o ≡ true → armed_if o w ≡ o
 armed_same o w h = grind arith
 
-some_of : {A : Type 0} (o : Option A) → is_some o ≡ true → (q : A) × (o ≡ Some q)
+pub some_of : {A : Type 0} (o : Option A) → is_some o ≡ true → (q : A) × (o ≡ Some q)
 some_of o h = grind arith
 
 false_and : (b a : Bool) → a ≡ false → (b && a) ≡ false

@@ -100,7 +100,7 @@ module _ (G : Game) where
       go (inr g) ih = ap (λ x. x.over) (slots_last G n j) ∙ over_once (slots G n j) (ih g)
 
   -- who is live later showed the leading symbol, and goes on
-  stayed : (k : ℕ) (l : Live G) (s : D.S) (i : ℕ) (p r : W.Cursor) → ends (lead W l) ≡ false → at l i ≡ Some p →
+  pub stayed : (k : ℕ) (l : Live G) (s : D.S) (i : ℕ) (p r : W.Cursor) → ends (lead W l) ≡ false → at l i ≡ Some p →
       at (joint G l s (suc k)).live i ≡ Some r →
       (W.symbol p ≡ lead W l) × (at (next_live G l s) i ≡ Some (W.next p (next_level G l s)))
   stayed k l s i p r d a b = by_rank (eqb (rank (lead W l)) (rank (W.symbol p))) refl

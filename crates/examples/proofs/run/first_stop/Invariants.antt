@@ -4,4 +4,5 @@ use Rattle.examples.specs.Run.{stop_within}
 use Rattle.examples.proofs.run.first_stop.Given as goal
 
 abbrev pub invariant-loop-made : goal.invariant-loop-made
-invariant-loop-made l = (k : ℕ) → l._made + k ≡ l._made-end → stop_within l._made-end (bus_model l.initial.bus) ≡ stop_within k (bus_model l.bus)
+invariant-loop-made l = (k : ℕ) → l._made + k ≡ l._made-end →
+    stop_within l._made-end (bus_model l.initial.bus) ≡ stop_within k (bus_model l.bus)

@@ -31,7 +31,8 @@ returns g c =
       c.head_bus-bus.ensures,
       p.text,
       p.end,
-      only_run head_hosts head_devices one_hold 3 _ u p.text p.end (subst (λ n. RunsTo head_hosts head_devices 3 n u p.text p.end) c.ticks_of_turns.ensures p.run),
+      only_run head_hosts head_devices one_hold 3 _ u p.text p.end
+          (subst (λ n. RunsTo head_hosts head_devices 3 n u p.text p.end) c.ticks_of_turns.ensures p.run),
       subst (λ x. Puts g.O.Output.takes g.O.Output.fails (p.text ++ x) c.args.out.now c.put.result c.put.new.self) end_is
           (puts_more g.O.Output.takes g.O.Output.fails _ _ _ _ _ _ p.written c.put.ensures.taken c.put.ensures.failed),
     )

@@ -11,5 +11,6 @@ returns c =
     let read = at (λ n. one_read n 1) _ _ _ _ (unwrapped transfer_model _ _ _ c.read.ensures c.unwrap-read.ensures) at_81 refl in (
       _,
       (c.unwrap-read.result, read, refl),
-      serves poll_host _ _ _ _ _ c.new-4.ensures.made (ok_same (unwrapped (λ k. (k.low, k.high)) _ _ _ c.new.ensures c.unwrap-clock.ensures)) c.new-3.ensures,
+      serves poll_host _ _ _ _ _ c.new-4.ensures.made
+          (ok_same (unwrapped (λ k. (k.low, k.high)) _ _ _ c.new.ensures c.unwrap-clock.ensures)) c.new-3.ensures,
     )

@@ -14,7 +14,8 @@ returns c =
       lists,
       polls,
       more,
-      head_is _ _ _ _ _ _ _ _ _ _ _ _ a b d c.new-8.ensures.made first second third c.new-5.ensures.made c.new-6.ensures.made c.new-7.ensures.made
+      head_is _ _ _ _ _ _ _ _ _ _ _ _ a b d c.new-8.ensures.made first second third c.new-5.ensures.made c.new-6.ensures.made
+          c.new-7.ensures.made
           (ok_same (unwrapped (λ a. a.number) _ _ _ c.new.ensures c.unwrap-registers.ensures))
           (ok_same (unwrapped (λ a. a.number) _ _ _ c.new-2.ensures c.unwrap-events.ensures))
           (idle_is _ _ c.new-4.ensures.made c.new-3.ensures) c.slow_events-slow.ensures

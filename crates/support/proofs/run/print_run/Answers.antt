@@ -33,7 +33,8 @@ loop-made-preserved g c =
     let shown = c.as_bytes.ensures.value ∙ c.as_str.ensures.value ∙ c.lines-lines.ensures.lines in
     let (before, ran, written) = c.loop-made.invariant in (
       _,
-      one_more hs ds c.args.masters _ c.tick-tick.ensures.answered.0 _ _ _ _ _ c.tick-tick.ensures.answered.2 c.step.ensures c.arm_all-in-loop-made.ensures
+      one_more hs ds c.args.masters _ c.tick-tick.ensures.answered.0 _ _ _ _ _ c.tick-tick.ensures.answered.2 c.step.ensures
+          c.arm_all-in-loop-made.ensures
           c.loop-made._made (bus_model c.args.bus.now) before text ran (search rules) c.tick-tick.ensures.answered.1 shown,
       writes_in_calls_append _ _ _ _ _ _ written (writes_in_calls_single _ _ _ _ c.in_default.ensures.taken),
     )
@@ -56,14 +57,18 @@ returns-in-Err-clause-part g c =
       answered = c.tick-tick.ensures.answered.1;
       written = written;
       failed = subst (λ (x : List ℕ). g.O.Output.fails c.loop-made.out x c.in-Err.error c.put.new.self)
-          (lines_are hs ds c.args.masters _ c.tick-tick.ensures.answered.0 _ _ _ _ _ c.tick-tick.ensures.answered.2 c.step.ensures c.arm_all-in-loop-made.ensures text shown)
+          (lines_are hs ds c.args.masters _ c.tick-tick.ensures.answered.0 _ _ _ _ _ c.tick-tick.ensures.answered.2 c.step.ensures
+          c.arm_all-in-loop-made.ensures text shown)
           c.in-Err.ensures.failed;
-      bus = ap (λ a. a.bus) (ticked_is hs ds c.args.masters _ c.tick-tick.ensures.answered.0 _ _ _ _ _ c.tick-tick.ensures.answered.2 c.step.ensures c.arm_all-in-loop-made.ensures);
+      bus = ap (λ a. a.bus)
+          (ticked_is hs ds c.args.masters _ c.tick-tick.ensures.answered.0 _ _ _ _ _ c.tick-tick.ensures.answered.2 c.step.ensures
+          c.arm_all-in-loop-made.ensures);
     }
 
 pub returns-then-at_rest-clause-unheld : goal.returns-then-at_rest-clause-unheld
 returns-then-at_rest-clause-unheld g c = λ never.
-    puts_all g.M.Masters.hosts g.P.Ports.devices never c.args.masters g.O.Output.takes g.O.Output.fails _ _ _ _ _ (returns-then-at_rest-clause-all g c)
+    puts_all g.M.Masters.hosts g.P.Ports.devices never c.args.masters g.O.Output.takes g.O.Output.fails _ _ _ _ _
+    (returns-then-at_rest-clause-all g c)
 
 pub returns-clause-unheld : goal.returns-clause-unheld
 returns-clause-unheld g c = λ never.
@@ -71,19 +76,23 @@ returns-clause-unheld g c = λ never.
 
 pub returns-in-Err-clause-unheld : goal.returns-in-Err-clause-unheld
 returns-in-Err-clause-unheld g c = λ never.
-    puts_part g.M.Masters.hosts g.P.Ports.devices never c.args.masters g.O.Output.takes g.O.Output.fails _ _ _ _ _ _ (returns-in-Err-clause-part g c)
+    puts_part g.M.Masters.hosts g.P.Ports.devices never c.args.masters g.O.Output.takes g.O.Output.fails _ _ _ _ _ _
+    (returns-in-Err-clause-part g c)
 
 pub returns-then-at_rest-clause-only : goal.returns-then-at_rest-clause-only
 returns-then-at_rest-clause-only g c = λ one text end run.
-    puts_only g.M.Masters.hosts g.P.Ports.devices one c.args.masters g.O.Output.takes g.O.Output.fails _ _ _ _ _ text end run (returns-then-at_rest-clause-all g c)
+    puts_only g.M.Masters.hosts g.P.Ports.devices one c.args.masters g.O.Output.takes g.O.Output.fails _ _ _ _ _ text end run
+    (returns-then-at_rest-clause-all g c)
 
 pub returns-clause-only : goal.returns-clause-only
 returns-clause-only g c = λ one text end run.
-    puts_only g.M.Masters.hosts g.P.Ports.devices one c.args.masters g.O.Output.takes g.O.Output.fails _ _ _ _ _ text end run (returns-clause-all g c)
+    puts_only g.M.Masters.hosts g.P.Ports.devices one c.args.masters g.O.Output.takes g.O.Output.fails _ _ _ _ _ text end run
+    (returns-clause-all g c)
 
 pub returns-in-Err-clause-only : goal.returns-in-Err-clause-only
 returns-in-Err-clause-only g c = λ one text end run.
-    puts_front g.M.Masters.hosts g.P.Ports.devices one c.args.masters g.O.Output.takes g.O.Output.fails _ _ _ _ _ text end run _ (returns-in-Err-clause-part g c)
+    puts_front g.M.Masters.hosts g.P.Ports.devices one c.args.masters g.O.Output.takes g.O.Output.fails _ _ _ _ _ text end run _
+    (returns-in-Err-clause-part g c)
 
 pub returns-then-at_rest-clause-numbers : goal.returns-then-at_rest-clause-numbers
 returns-then-at_rest-clause-numbers g c = is_decimal

@@ -4,7 +4,7 @@ use Rattle.exchange.specs.Bus.{bus_model}
 use Rattle.law.specs.Limits.{most_masters}
 use Rattle.law.specs.Run.{told_count}
 use Rattle.wire.specs.Wire.{signal}
-use Rattle.exchange.proofs.Counting.{tolds_are_all}
+use Rattle.exchange.proofs.Counting.{told_count_is_all}
 use Rattle.exchange.proofs.bus.Bus.outcomes_of_tick.Goals as goal
 
 pub returns : goal.returns
@@ -16,6 +16,6 @@ returns g c =
     record {
       few = c.outcome_count.ensures.few;
       all = c.outcome_count.ensures.all ∙ ap (λ x. told_count x.0.marks) tick.2
-          ∙ tolds_are_all hs (signal u.wire (levels_at hs ds u)) u.masters most_masters c.args.self.now.few_masters;
+          ∙ told_count_is_all hs (signal u.wire (levels_at hs ds u)) u.masters most_masters c.args.self.now.few_masters;
       after = (c.tick.result, tick);
     }

@@ -6,7 +6,8 @@ use Rattle.support.proofs.output.AnyOutput.put.Goals.{in-Ok, in-Err}
 
 joined : (front rest bytes : List ℕ) (n : ℕ) → n ≤ length rest → front ++ rest ≡ bytes →
     front ++ (take n rest ++ take (length rest - n) (drop n rest)) ≡ bytes
-joined front rest bytes n h e = rw (take_all (length rest - n) (drop n rest) (omega (arith, length-drop {A = ℕ})), take-append-drop n rest) e
+joined front rest bytes n h e =
+    rw (take_all (length rest - n) (drop n rest) (omega (arith, length-drop {A = ℕ})), take-append-drop n rest) e
 
 pub loop-preserved : goal.loop-preserved
 loop-preserved g c =
