@@ -229,9 +229,9 @@ module _ (G : Game) (Fits : G.script.Task → Type 0) (Rest : G.side.S → Type 
         falls = inr (elim fs [ inl s ↦ inl (s, z.0) | inr s ↦ inr s ]);
       }
 
-  no_loses : (t : Option (Tasks W)) (s : D.S) (v : List Bool) (w : Monitor) (cs : List (Cell W)) (i : ℕ) →
+  no_loses : {t : Option (Tasks W)} {s : D.S} {v : List Bool} {w : Monitor} (cs : List (Cell W)) (i : ℕ) →
       slice_index_or (notes W (no_verdict W) cs) i quiet ≡ lost → Loses G t s v w i
-  no_loses t s v w cs i h =
+  no_loses cs i h =
       let a = note_at W (no_verdict W) cs i h in
       let b : ◌≡◌ {A = VerdictModel W} quiet lost = a.2 in
       cc
@@ -248,8 +248,7 @@ module _ (G : Game) (Fits : G.script.Task → Type 0) (Rest : G.side.S → Type 
       by_tick h q (via_verdicts W D P.machine ks Q.machine.wire.last (ap (λ x. x.wire.last) q) sd)
       (subst (λ x. Fine P n Q.machine x ks) (sym ev)
       (silent e ks st fe ne (marks_none W (later P e) cs ∙ se)
-      (tells_none W (no_verdict W) (λ x p. refl) cs ∙ ap nobody (sym a))
-      (no_loses P.booked.turn P.booked.side P.monitor.marked (later P e) cs) fs))
+      (tells_none W (no_verdict W) (λ x p. refl) cs ∙ ap nobody (sym a)) (no_loses cs) fs))
 
   -- who shows the rank j stays, where that is the least
   abbrev stay_turn : (T : OpenTurn) (j : ℕ) → least W T.cells ≡ j → j ≤ 4 → OpenTurn
@@ -367,12 +366,12 @@ module _ (G : Game) (Fits : G.script.Task → Type 0) (Rest : G.side.S → Type 
           fall_no refl (inl (omega arith))
 
   -- a mark in the slot k; f: who is marked before, lo: whom the verdicts mark
-  loses_here : (T : OpenTurn) (sp : Spell) (f lo : Symbol → Bool) (j : Symbol → W.Cursor → VerdictModel W)
-      (each : (x : Symbol) (p : W.Cursor) → is_lost W (j x p) ≡ lo x) (k r : ℕ) (s : D.S) → Slots G T k r T.cells s →
+  loses_here : (T : OpenTurn) {sp : Spell} (f lo : Symbol → Bool) (j : Symbol → W.Cursor → VerdictModel W)
+      (each : (x : Symbol) (p : W.Cursor) → is_lost W (j x p) ≡ lo x) {k r : ℕ} {s : D.S} → Slots G T k r T.cells s →
       ((x : Symbol) → lo x ≡ true → f x ≡ false) → ((x : Symbol) → lo x ≡ true → x ≡ lead W (cursors W T.cells) → ⊥) →
       (i : ℕ) → slice_index_or (notes W j T.cells) i quiet ≡ lost →
       Loses G (Some T.contenders) T.rest (marks G f T) (watch (suc k) true (marks G f T) sp) i
-  loses_here T sp f lo j each k r s run new behind i e =
+  loses_here T f lo j each {k} run new behind i e =
       let a = note_at W j T.cells i e in
       let o : lo (W.symbol a.0) ≡ true = sym (each (W.symbol a.0) a.0) ∙ ap (is_lost W) a.2 in
       let q = contender W T.contenders T.cells T.within i a.0 a.1 in
@@ -422,9 +421,8 @@ module _ (G : Game) (Fits : G.script.Task → Type 0) (Rest : G.side.S → Type 
           (ap (λ x. watch (suc k) true x (spell (Some o) (text G T k)))
           (marked_more W never (early_lost o) (early W o) (early_is W o) T.contenders T.cells T.within))
           (tells_none W (early W o) (early_mute W o) T.cells ∙ ap nobody (sym T.armed_as))
-          (loses_here T (spell (Some o) (text G T k)) never (early_lost o) (early W o) (early_is W o) k r s run
-          (λ x e. refl) (λ x e z. early_behind D x s o e (ap (λ y. heard D y s) z
-          ∙ run_carries G T.cells run)))
+          (loses_here T never (early_lost o) (early W o) (early_is W o) run (λ x e. refl)
+          (λ x e z. early_behind D x s o e (ap (λ y. heard D y s) z ∙ run_carries G T.cells run)))
           (inl (omega arith)))
 
   tick_high : (T : OpenTurn) (k r g : ℕ) (s : D.S) (d : Bool) (c : Option Bool) (e n h : ℕ) → h ≤ most_count →
@@ -478,13 +476,13 @@ module _ (G : Game) (Fits : G.script.Task → Type 0) (Rest : G.side.S → Type 
     spelt : (c : Letter) → letter D leading s ≡ c → text G T k ++ (c ∷ []) ≡ text G T (suc k)
     spelt c e = spells G c run e
 
-    loses_late : (sp : Spell) (b : Bool) (j : ℕ) → least W T.cells ≡ j → (j ≡ 2 → b ≡ true) → (i : ℕ) →
+    loses_late : {sp : Spell} (b : Bool) (j : ℕ) → least W T.cells ≡ j → (j ≡ 2 → b ≡ true) → (i : ℕ) →
         slice_index_or (notes W (late W j) T.cells) i quiet ≡ lost →
         Loses G (Some T.contenders) T.rest (marks G (early_lost b) T)
         (watch (suc k) true (marks G (early_lost b) T) sp) i
-    loses_late sp b j e again =
-        loses_here T sp (early_lost b) (late_lost j) (late W j) (late_is W j) k (suc r) s run
-        (λ x a. late_new j x b again a) (λ x a p. late_behind j x a (ap rank p ∙ led_by j e))
+    loses_late b j e again =
+        loses_here T (early_lost b) (late_lost j) (late W j) (late_is W j) run (λ x a. late_new j x b again a)
+        (λ x a p. late_behind j x a (ap rank p ∙ led_by j e))
 
     marks_late : (b : Bool) (j : ℕ) → Every W (λ x. (early_lost b x || late_lost j x) ≡ not (eqb (rank x) j)) T.cells →
         marks_too W (marks G (early_lost b) T) (notes W (late W j) T.cells) ≡
@@ -512,7 +510,7 @@ module _ (G : Game) (Fits : G.script.Task → Type 0) (Rest : G.side.S → Type 
         (run_bit G T.cells run T.living j e j1 j2))) refl high_no
         (ap (λ x. watch (suc k) true x (spell (Some b) (text G T k))) (marks_late b j ev))
         (tells_none W (late W j) (late_mute W j j1) T.cells ∙ ap nobody (sym T.armed_as))
-        (loses_late (spell (Some b) (text G T k)) b j e (λ p. absurd (j2 p))) (inl (omega arith))))
+        (loses_late b j e (λ p. absurd (j2 p))) (inl (omega arith))))
       where
         spells_on : text G T k ++ (bit_letter b ∷ []) ≡ text G T (suc k)
         spells_on = spelt (bit_letter b)
@@ -533,7 +531,7 @@ module _ (G : Game) (Fits : G.script.Task → Type 0) (Rest : G.side.S → Type 
         (subst (λ x. Slots G U (suc k) r (advance W x U.cells) (D.begin s)) c again)) refl start_no
         (ap₂ (λ x y. watch (suc k) true x (spell None y)) (marks_late true 2 ev) spells_on)
         (tells_none W (late W 2) (late_mute W 2 (omega arith)) T.cells ∙ ap nobody (sym T.armed_as))
-        (loses_late (spell None (text G T k ++ (restart ∷ []))) true 2 e (λ p. refl)) (inl (omega arith)))
+        (loses_late true 2 e (λ p. refl)) (inl (omega arith)))
       where
         again : Run G (begins W T.contenders) (D.begin T.rest) (suc k) r
             (cursors W (advance W (carries W D T.cells s) (stay W 2 T.cells))) (D.begin s)
