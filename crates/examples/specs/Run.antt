@@ -14,7 +14,7 @@ use Rattle.law.specs.Limits.{most_ticks_of_turn}
 use Rattle.law.specs.Run.{run_at}
 use Rattle.listing.specs.Marks.{told_text}
 use Rattle.support.specs.ArmAll.{all_armed}
-use Rattle.support.specs.Filled.{new_list}
+use Rattle.host.specs.ListHost.{new_list_host}
 use Rattle.support.specs.PairBus.{new_pair_bus}
 use Rattle.support.specs.Transfer.{registers_address, register}
 use Rattle.support.specs.declared.pair.Clocks.{Clocks}
@@ -59,8 +59,8 @@ clocks_text c =
 -- two masters with a transfer each, and who is told at their first stop
 abbrev pub example_line : List ℕ → Transfer → Transfer → Clocks → List ℕ
 example_line name one other c =
-    let first = new_list (one ∷ []) in
-    let second = new_list (other ∷ []) in
+    let first = new_list_host (one ∷ []) in
+    let second = new_list_host (other ∷ []) in
     let u = new_pair_bus list_host registers_address c first second in
     name ++ (codes ", clocks " ++ (clocks_text c ++ (codes ": told" ++
     (told_at (first_stop u) ++ codes "\n"))))

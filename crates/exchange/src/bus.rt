@@ -124,8 +124,8 @@ impl<M: Masters, P: Ports> Bus<M, P> {
     }
 
     /// One tick: what all parts pull gives the levels, the levels give the event, and every master and every port steps on
-    /// it. What the devices answer to hold alone is open, as far as they leave it open; where none of them may hold,
-    /// nothing is.
+    /// it. Only one thing is left open: what the devices answer to hold, as far as they leave it open. Where none of them
+    /// may hold, nothing is.
     pub fn tick(&mut self) -> Tick
         ensures answered { TicksTo self.old result self.new }
         ensures unheld { NeverHold P.Ports.devices → (result, bus_model self.new) ≡

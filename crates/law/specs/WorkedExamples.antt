@@ -13,7 +13,7 @@ use Rattle.device.specs.declared.selection.Selection.TheVariants.{Closed}
 use Rattle.device.specs.EventQueue.{event_queue}
 use Rattle.device.specs.RegisterFile.{RegisterFileModel, new_registers, register_file}
 use Rattle.host.specs.Host.{HostBehaviour}
-use Rattle.host.specs.ListHost.{list_host}
+use Rattle.host.specs.ListHost.{list_host, new_list_host}
 use Rattle.master.specs.declared.arming.Arming.{Arming}
 use Rattle.master.specs.declared.arming.Arming.TheVariants.{Unarmed, Armed}
 use Rattle.wire.specs.declared.event.Event.TheVariants.{Stop, SteadyHigh}
@@ -41,7 +41,7 @@ two_hosts = list_host ∷ list_host ∷ []
 
 abbrev pub entry : Transfer → Entry list_host
 entry t = record {
-  meaning = record { rest = t ∷ []; last = None };
+  meaning = new_list_host (t ∷ []);
   arming = Unarmed;
   contends = false;
 }

@@ -32,20 +32,20 @@ abbrev pub write_then_read : ℕ → List ℕ → ℕ → TransferModel
 write_then_read a xs n = record { first = write_leg a xs; second = Some (read_leg a n) }
 
 -- the same, put together in one call, with which lengths are refused
-abbrev pub one_write : ℕ → List ℕ → Result TransferModel ℕ
-one_write a xs =
+abbrev pub checked_write : ℕ → List ℕ → Result TransferModel ℕ
+checked_write a xs =
     if is_write_length (length xs)
     then Ok (write_to a xs)
     else Err (number LengthOutOfRange)
 
-abbrev pub one_read : ℕ → ℕ → Result TransferModel ℕ
-one_read a n =
+abbrev pub checked_read : ℕ → ℕ → Result TransferModel ℕ
+checked_read a n =
     if is_read_length n
     then Ok (read_from a n)
     else Err (number LengthOutOfRange)
 
-abbrev pub write_and_read : ℕ → List ℕ → ℕ → Result TransferModel ℕ
-write_and_read a xs n =
+abbrev pub checked_write_then_read : ℕ → List ℕ → ℕ → Result TransferModel ℕ
+checked_write_then_read a xs n =
     if is_write_length (length xs) && is_read_length n
     then Ok (write_then_read a xs n)
     else Err (number LengthOutOfRange)

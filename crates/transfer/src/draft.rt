@@ -18,11 +18,11 @@ impl Transfer {
     ghost use Rattle.std.specs.Prelude.{◌≡◌};
     ghost use Rattle.transfer.specs.Limits.{least_address};
     ghost use Rattle.transfer.specs.Refusal.{answer};
-    ghost use Rattle.transfer.specs.Transfer.{transfer_model, new_draft, one_write, one_read, write_and_read};
+    ghost use Rattle.transfer.specs.Transfer.{transfer_model, new_draft, checked_write, checked_read, checked_write_then_read};
 
     /// One leg: a write of 0 to [`MOST_BYTES`] bytes.
     pub fn write(address: Address, bytes: &[u8]) -> Result<Transfer, Refusal>
-        ensures { answer transfer_model result ≡ one_write address.number bytes.now }
+        ensures { answer transfer_model result ≡ checked_write address.number bytes.now }
     {
         let mut draft = Draft::new(address);
         draft.write(bytes)?;
@@ -31,7 +31,7 @@ impl Transfer {
 
     /// One leg: a read of `count` bytes, 1 to [`MOST_BYTES`].
     pub fn read(address: Address, count: u32) -> Result<Transfer, Refusal>
-        ensures { answer transfer_model result ≡ one_read address.number count }
+        ensures { answer transfer_model result ≡ checked_read address.number count }
     {
         let mut draft = Draft::new(address);
         draft.read(count)?;
@@ -45,7 +45,7 @@ impl Transfer {
         written: &[u8],
         wanted: u32,
     ) -> Result<Transfer, Refusal>
-        ensures { answer transfer_model result ≡ write_and_read address.number written.now wanted }
+        ensures { answer transfer_model result ≡ checked_write_then_read address.number written.now wanted }
     {
         let mut draft = Draft::new(address);
         draft.write(written)?;
