@@ -2,7 +2,7 @@
 use Rattle.std.proofs.Common.{◌≡◌, ℕ, List, max, refl, sym, ap, ◌∙◌, arith}
 use Rattle.device.specs.EventQueue.{event_queue}
 use Rattle.device.specs.Slow.{slow_over}
-use Rattle.law.specs.Bus.{BusModel, HoldAnswers, Answered, tick_at}
+use Rattle.law.specs.BusModel.{BusModel, HoldAnswers, Answered, tick_at}
 use Rattle.support.proofs.Kept.{kept_on}
 use Rattle.support.proofs.OneText.{only_run}
 use Rattle.support.proofs.SomeRun.{some_run}

@@ -2,7 +2,7 @@
 use Rattle.std.specs.Prelude.{ℕ, ◌*◌, List, [], ◌++◌, codes, decimal, Option, Some, None, Result}
 use Rattle.std.specs.declared.io.Error.{Error}
 use Rattle.transfer.specs.Outcome.{OutcomeModel, outcome_text}
-use Rattle.law.specs.Bus.{BusModel}
+use Rattle.law.specs.BusModel.{BusModel}
 use Rattle.law.specs.Limits.{most_ticks_of_turn}
 use Rattle.support.specs.Output.{Puts}
 use Rattle.support.specs.PrintedRun.{Listened, IsOnlyRun}

@@ -10,11 +10,11 @@ use Rattle.device.specs.Slow.{SlowModel, slow_over}
 use Rattle.host.specs.Host.{HostBehaviour}
 use Rattle.host.specs.ListHost.{ListHostModel, list_host}
 use Rattle.host.specs.PollHost.{PollHostModel, poll_host}
-use Rattle.law.specs.Bus.{BusModel, new_bus}
+use Rattle.law.specs.BusModel.{BusModel, new_bus}
 use Rattle.master.specs.Master.{HostedMaster, new_hosted_master}
 use Rattle.port.specs.Port.{new_port}
 use Rattle.host.specs.ListHost.{new_list_host}
-use Rattle.support.specs.Transfer.{registers_address, events_address, register, event_read, register_write}
+use Rattle.support.specs.Sent.{registers_address, events_address, register, event_read, register_write}
 
 -- no port has this address
 abbrev pub nobodys_address : ℕ

@@ -8,9 +8,9 @@ use Rattle.host.specs.Host.{HostBehaviour}
 use Rattle.host.specs.ListHost.{ListHostModel, list_host}
 use Rattle.master.specs.Master.{new_hosted_master}
 use Rattle.port.specs.Port.{new_port}
-use Rattle.law.specs.Bus.{BusModel, new_bus}
+use Rattle.law.specs.BusModel.{BusModel, new_bus}
 use Rattle.host.specs.ListHost.{new_list_host}
-use Rattle.support.specs.Transfer.{registers_address, register_write}
+use Rattle.support.specs.Sent.{registers_address, register_write}
 
 -- one transfer, a write of the byte to a register
 abbrev pub Wants : ℕ → ListHostModel → Type 0

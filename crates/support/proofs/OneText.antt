@@ -6,7 +6,7 @@ use Rattle.std.specs.declared.io.Error.{Error}
 use Rattle.device.specs.Device.{Behaviour}
 use Rattle.host.specs.Host.{HostBehaviour}
 use Rattle.law.specs.Bank.{Bank}
-use Rattle.law.specs.Bus.{BusModel, HoldAnswers, AllMayAnswer, Answered, ports_step, tick_at, levels_at, is_at_rest}
+use Rattle.law.specs.BusModel.{BusModel, HoldAnswers, AllMayAnswer, Answered, ports_step, tick_at, levels_at, is_at_rest}
 use Rattle.listing.specs.Listing.{listing_step}
 use Rattle.support.specs.ArmAll.{all_armed}
 use Rattle.port.specs.declared.port.Mode.{Mode}

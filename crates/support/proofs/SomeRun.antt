@@ -3,7 +3,7 @@ use Rattle.std.proofs.Common.{◌≡◌, ℕ, zero, suc, ◌+◌, ◌++◌, List
 use Rattle.std.proofs.lemmas.Bool.{cases_Bool}
 use Rattle.device.specs.Device.{Behaviour}
 use Rattle.host.specs.Host.{HostBehaviour}
-use Rattle.law.specs.Bus.{BusModel, HoldAnswers, Answered, tick_at, is_at_rest}
+use Rattle.law.specs.BusModel.{BusModel, HoldAnswers, Answered, tick_at, is_at_rest}
 use Rattle.support.specs.ArmAll.{all_armed}
 use Rattle.support.specs.PrintedRun.{Listened, listened_start, next_lines, listened_after_tick, TicksLeadTo, IsRun}
 

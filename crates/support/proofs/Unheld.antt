@@ -5,7 +5,7 @@ use Rattle.std.specs.declared.io.Error.{Error}
 use Rattle.device.specs.Device.{Behaviour}
 use Rattle.host.specs.Host.{HostBehaviour}
 use Rattle.law.proofs.WithoutHolds.{tick_unheld}
-use Rattle.law.specs.Bus.{BusModel, HoldAnswers, NeverHold, Answered, no_holds, is_at_rest}
+use Rattle.law.specs.BusModel.{BusModel, HoldAnswers, NeverHold, Answered, no_holds, is_at_rest}
 use Rattle.listing.specs.Listing.{listing_step}
 use Rattle.support.specs.ArmAll.{all_armed}
 use Rattle.support.specs.Output.{PutsPart}

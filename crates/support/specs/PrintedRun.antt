@@ -4,7 +4,7 @@ use Rattle.std.specs.Fmt.{WritesInCalls}
 use Rattle.std.specs.declared.io.Error.{Error}
 use Rattle.device.specs.Device.{Behaviour}
 use Rattle.host.specs.Host.{HostBehaviour}
-use Rattle.law.specs.Bus.{BusModel, HoldAnswers, Answered, no_holds, tick_at, is_at_rest}
+use Rattle.law.specs.BusModel.{BusModel, HoldAnswers, Answered, no_holds, tick_at, is_at_rest}
 use Rattle.listing.specs.declared.listing.Listing.{Listing}
 use Rattle.listing.specs.Marks.{lines_of}
 use Rattle.listing.specs.Listing.{new_listing, listing_step}

@@ -1,7 +1,7 @@
 // A run that is printed tick by tick.
 ghost use Rattle.std.specs.Prelude.{ℕ, ◌<◌, ◌^◌, List, decimal, OnOk, IfErr};
 ghost use Rattle.exchange.specs.Bus.{bus_model};
-ghost use Rattle.law.specs.Bus.{NeverHold};
+ghost use Rattle.law.specs.BusModel.{NeverHold};
 ghost use Rattle.support.specs.Output.{Puts};
 ghost use Rattle.support.specs.PrintedRun.{OneHold, Listened, IsRun, PrintsAll, PrintsPart, listened_start, unheld_lines};
 ghost use Rattle.text.specs.Decimal.{IsDecimal};

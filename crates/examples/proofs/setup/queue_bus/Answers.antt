@@ -2,12 +2,12 @@ use Rattle.std.proofs.Common.{◌≡◌, ℕ, List, [], ◌∷◌, Ok}
 use Rattle.transfer.specs.Transfer.{TransferModel, transfer_model, checked_read}
 use Rattle.device.specs.EventQueue.{event_queue, queue_model}
 use Rattle.host.specs.ListHost.{ListHostModel, list_host, list_host_model}
-use Rattle.law.specs.Bus.{BusModel, new_bus}
+use Rattle.law.specs.BusModel.{BusModel, new_bus}
 use Rattle.master.specs.Master.{HostedMaster, new_hosted_master}
 use Rattle.port.specs.Port.{PortModel, new_port}
 use Rattle.examples.specs.Setup.{reader, two_queues, queue_bus_of}
 use Rattle.host.specs.ListHost.{new_list_host}
-use Rattle.support.specs.Transfer.{event_read}
+use Rattle.support.specs.Sent.{event_read}
 use Rattle.support.proofs.Made.{ok_same, unwrapped}
 use Rattle.examples.proofs.setup.queue_bus.Goals as goal
 

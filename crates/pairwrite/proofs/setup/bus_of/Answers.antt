@@ -4,8 +4,8 @@ use Rattle.device.specs.RegisterFile.{register_file, new_registers}
 use Rattle.host.specs.ListHost.{ListHostModel, list_host, list_host_model}
 use Rattle.master.specs.Master.{new_hosted_master}
 use Rattle.host.specs.ListHost.{new_list_host}
-use Rattle.support.specs.Transfer.{register_write}
-use Rattle.law.specs.Bus.{BusModel, new_bus}
+use Rattle.support.specs.Sent.{register_write}
+use Rattle.law.specs.BusModel.{BusModel, new_bus}
 use Rattle.port.specs.Port.{new_port}
 use Rattle.pairwrite.specs.Setup.{pair_hosts, pair_devices, pair_of}
 use Rattle.support.proofs.Made.{ok_same, unwrapped}
