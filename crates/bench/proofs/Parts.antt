@@ -7,7 +7,7 @@ use Rattle.host.specs.Host.{HostBehaviour}
 use Rattle.host.specs.declared.poll_host.PollHost.{PollHost}
 use Rattle.host.specs.contracts.poll_host.PollHostHost.TheImpl.{ghosts as poll_ghosts}
 use Rattle.law.specs.Bank.{Bank}
-use Rattle.law.specs.Bus.{BusModel, new_bus}
+use Rattle.law.specs.BusModel.{BusModel, new_bus}
 use Rattle.master.specs.declared.master.Master.{Master}
 use Rattle.master.specs.Master.{HostedMaster, hosted_master}
 use Rattle.port.specs.declared.port.Port.{Port}

@@ -5,7 +5,7 @@ use Rattle.transfer.specs.Transfer.{transfer_model}
 use Rattle.host.specs.PollHost.{PollHostModel, poll_host}
 use Rattle.master.specs.Master.{HostedMaster, new_hosted_master}
 use Rattle.support.proofs.Made.{ok_same}
-use Rattle.support.specs.Transfer.{register_write}
+use Rattle.support.specs.Sent.{register_write}
 use Rattle.bench.specs.Writer.{writer_of, WritesForEver}
 
 pub writes_for_ever : (x : HostedMaster poll_host) (t : Transfer) (m : PollHostModel) (low high address known byte : ℕ) →

@@ -2,8 +2,8 @@
 use Rattle.std.specs.Prelude.{◌≡◌, ℕ, zero, suc, ◌+◌, ◌-◌, ◌^◌, min, if◌then◌else◌, List}
 use Rattle.device.specs.Device.{Behaviour}
 use Rattle.host.specs.Host.{HostBehaviour}
-use Rattle.law.specs.Bus.{BusModel, HoldAnswers, Answered, tick_at, is_at_rest}
-use Rattle.law.specs.Run.{told_count}
+use Rattle.law.specs.BusModel.{BusModel, HoldAnswers, Answered, tick_at, is_at_rest}
+use Rattle.law.specs.RunModel.{told_count}
 use Rattle.support.specs.ArmAll.{all_armed}
 use Rattle.wire.specs.declared.event.Event.{Event}
 use Rattle.wire.specs.declared.event.Event.TheVariants.{Rise, Fall, Start, Stop, SteadyHigh, SteadyLow}

@@ -5,10 +5,10 @@ use Rattle.device.specs.RegisterFile.{register_file, new_registers}
 use Rattle.host.specs.Host.{HostBehaviour}
 use Rattle.host.specs.PollHost.{poll_host}
 use Rattle.law.specs.Bank.{Bank}
-use Rattle.law.specs.Bus.{BusModel, new_bus}
+use Rattle.law.specs.BusModel.{BusModel, new_bus}
 use Rattle.master.specs.Master.{HostedMaster}
 use Rattle.port.specs.Port.{PortModel, new_port}
-use Rattle.support.specs.Transfer.{registers_address}
+use Rattle.support.specs.Sent.{registers_address}
 use Rattle.bench.specs.Counting.{Works}
 use Rattle.bench.specs.Writer.{WritesForEver}
 

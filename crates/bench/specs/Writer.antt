@@ -4,7 +4,7 @@ use Rattle.transfer.specs.declared.draft.Transfer.{Transfer}
 use Rattle.transfer.specs.Transfer.{transfer_model}
 use Rattle.host.specs.PollHost.{PollHostModel, poll_host}
 use Rattle.master.specs.Master.{HostedMaster, new_hosted_master}
-use Rattle.support.specs.Transfer.{register_write}
+use Rattle.support.specs.Sent.{register_write}
 
 -- a poll host that was told nothing yet, whose mask has every bit
 abbrev pub writer_of : Transfer → PollHostModel

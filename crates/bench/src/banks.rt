@@ -4,7 +4,7 @@ ghost use Rattle.transfer.specs.Limits.{least_address, most_address};
 ghost use Rattle.transfer.specs.declared.refusal.Refusal.TheVariants.{AddressOutOfRange};
 ghost use Rattle.master.specs.Master.{hosted_master};
 ghost use Rattle.port.specs.Port.{port_model};
-ghost use Rattle.support.specs.Transfer.{registers_address};
+ghost use Rattle.support.specs.Sent.{registers_address};
 ghost use Rattle.bench.specs.Sizes.{WritesQuick, WritesSlow, file_at};
 ghost use Rattle.bench.specs.Writer.{WritesForEver};
 

@@ -1,8 +1,8 @@
 // The loop that is measured.
 ghost use Rattle.std.specs.Prelude.{◌≡◌};
 ghost use Rattle.exchange.specs.Bus.{bus_model};
-ghost use Rattle.law.specs.Bus.{HoldAnswers, tick_at};
-ghost use Rattle.law.specs.Run.{told_count};
+ghost use Rattle.law.specs.BusModel.{HoldAnswers, tick_at};
+ghost use Rattle.law.specs.RunModel.{told_count};
 ghost use Rattle.bench.specs.Counting.{count_after, bus_readied, Works};
 
 use exchange::{Bus, Event, Masters, Ports, Tick};

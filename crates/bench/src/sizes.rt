@@ -1,7 +1,7 @@
 // A bus of each size.
 ghost use Rattle.std.specs.Prelude.{◌≤◌, length};
 ghost use Rattle.exchange.specs.Bus.{bus_model};
-ghost use Rattle.law.specs.Bus.{BusModel};
+ghost use Rattle.law.specs.BusModel.{BusModel};
 ghost use Rattle.law.specs.Limits.{most_masters};
 ghost use Rattle.bench.specs.Counting.{Works};
 ghost use Rattle.bench.specs.Sizes.{MeasuredWith, Measured};

@@ -4,7 +4,7 @@ ghost use Rattle.transfer.specs.declared.draft.Transfer.{Transfer};
 ghost use Rattle.transfer.specs.Transfer.{transfer_model};
 ghost use Rattle.transfer.specs.Refusal.{answer};
 ghost use Rattle.host.specs.PollHost.{poll_host_model};
-ghost use Rattle.support.specs.Transfer.{register_write};
+ghost use Rattle.support.specs.Sent.{register_write};
 ghost use Rattle.bench.specs.Writer.{writer_of};
 
 use host::PollHost;

@@ -16,8 +16,8 @@ module _ (b : Behaviour) where
     pub below : b.Meaning
 
   abbrev pub busy_model : {D : Type 0} → (D → b.Meaning) → Busy D → BusyModel
-  busy_model means l =
-      record { number = l.number; left = l.left; selection = l.selection; below = means l.device }
+  busy_model meaning l =
+      record { number = l.number; left = l.left; selection = l.selection; below = meaning l.device }
 
   abbrev pub new_busy : ℕ → b.Meaning → BusyModel
   new_busy n m = record { number = n; left = 0; selection = Closed; below = m }
@@ -60,8 +60,8 @@ module _ (b : Behaviour) where
 
 -- a step reaches the device below, once, unless it is a select that is refused
 abbrev pub BusyStepsTo : {D : Type 0} → (D → Step → D → Type 0) → Busy D → Step → Busy D → Type 0
-BusyStepsTo went x (select d v) z =
-    (0 < x.left → z.device ≡ x.device) × (x.left ≡ 0 → went x.device (select d v) z.device)
-BusyStepsTo went x (put n v) z = went x.device (put n v) z.device
-BusyStepsTo went x (take n) z = went x.device (take n) z.device
-BusyStepsTo went x finish z = went x.device finish z.device
+BusyStepsTo steps_to x (select d v) z =
+    (0 < x.left → z.device ≡ x.device) × (x.left ≡ 0 → steps_to x.device (select d v) z.device)
+BusyStepsTo steps_to x (put n v) z = steps_to x.device (put n v) z.device
+BusyStepsTo steps_to x (take n) z = steps_to x.device (take n) z.device
+BusyStepsTo steps_to x finish z = steps_to x.device finish z.device

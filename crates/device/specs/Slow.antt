@@ -9,7 +9,7 @@ module _ (b : Behaviour) where
     pub below : b.Meaning
 
   abbrev pub slow_model : {D : Type 0} → (D → b.Meaning) → Slow D → SlowModel
-  slow_model means s = record { number = s.number; below = means s.device }
+  slow_model meaning s = record { number = s.number; below = meaning s.device }
 
   -- the answer below is the answer of the layer
   abbrev pub answer_over : {R : Type 0} → SlowModel → R × b.Meaning → R × SlowModel
@@ -27,9 +27,9 @@ module _ (b : Behaviour) where
 
 -- a step reaches the device below, once
 abbrev pub SlowStepsTo : {D : Type 0} → (D → Step → D → Type 0) → Slow D → Step → Slow D → Type 0
-SlowStepsTo went x s z = (z.number ≡ x.number) × went x.device s z.device
+SlowStepsTo steps_to x s z = (z.number ≡ x.number) × steps_to x.device s z.device
 
 -- and so does hold
 abbrev pub SlowHoldsTo : {D : Type 0} → (D → ℕ → D → Type 0) → Slow D → ℕ → Slow D → Type 0
-SlowHoldsTo held x h z =
-    (below : ℕ) × held x.device below z.device × (h ≡ max x.number below) × (z.number ≡ x.number)
+SlowHoldsTo holds_to x h z =
+    (below : ℕ) × holds_to x.device below z.device × (h ≡ max x.number below) × (z.number ≡ x.number)

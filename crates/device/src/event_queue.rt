@@ -15,7 +15,7 @@ pub struct EventQueue {
 
 impl EventQueue {
     ghost use Rattle.std.specs.Prelude.{◌≡◌, []};
-    ghost use Rattle.transfer.specs.Fifo.{fifo_after_fill};
+    ghost use Rattle.transfer.specs.Fifo.{fifo_answer_to_fill};
     ghost use Rattle.transfer.specs.Refusal.{answer};
     ghost use Rattle.device.specs.EventQueue.{queue_model};
 
@@ -32,7 +32,7 @@ impl EventQueue {
     /// nothing.
     pub fn fill(&mut self, bytes: &[u8]) -> Result<(), Refusal>
         ensures { (answer (λ u. u) result, queue_model self.new)
-            ≡ fifo_after_fill bytes.now (queue_model self.old) }
+            ≡ fifo_answer_to_fill bytes.now (queue_model self.old) }
     {
         self.bytes.fill(bytes)
     }

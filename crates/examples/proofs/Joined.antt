@@ -1,9 +1,9 @@
 -- The run of the two queues.
 use Rattle.std.proofs.Common.{◌≡◌, ℕ, List, ◌++◌, codes, Option, Some, None, Result, refl, sym, ap, ◌∙◌, append-nil, append_assoc}
 use Rattle.transfer.specs.Outcome.{OutcomeModel, outcome_text}
-use Rattle.law.specs.Bus.{BusModel, NeverHold, no_holds}
+use Rattle.law.specs.BusModel.{BusModel, NeverHold, no_holds}
 use Rattle.law.specs.Limits.{most_ticks_of_turn}
-use Rattle.law.specs.Run.{RunModel, run_at}
+use Rattle.law.specs.RunModel.{RunModel, run_at}
 use Rattle.support.specs.ArmAll.{all_armed}
 use Rattle.examples.specs.Run.{joined_line, queues_after_run}
 use Rattle.examples.specs.Setup.{reader, two_queues}

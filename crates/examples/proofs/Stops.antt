@@ -1,7 +1,7 @@
 -- One tick more on the way to the first stop.
 use Rattle.std.proofs.Common.{◌≡◌, ℕ, suc, true, false, None, Some, refl, sym, ap, ◌∙◌}
 use Rattle.law.specs.declared.tick.Tick.{Tick}
-use Rattle.law.specs.Bus.{BusModel, no_holds, tick_at}
+use Rattle.law.specs.BusModel.{BusModel, no_holds, tick_at}
 use Rattle.law.specs.Limits.{most_ticks_of_turn}
 use Rattle.support.specs.ArmAll.{all_armed}
 use Rattle.wire.specs.declared.event.Event.{Event}

@@ -9,14 +9,14 @@ use Rattle.device.specs.RegisterFile.{register_file}
 use Rattle.host.specs.Host.{HostBehaviour}
 use Rattle.host.specs.ListHost.{list_host}
 use Rattle.law.specs.declared.tick.Tick.{Tick}
-use Rattle.law.specs.Bus.{BusModel, no_holds, tick_at}
+use Rattle.law.specs.BusModel.{BusModel, no_holds, tick_at}
 use Rattle.law.specs.Limits.{most_ticks_of_turn}
-use Rattle.law.specs.Run.{run_at}
+use Rattle.law.specs.RunModel.{run_at}
 use Rattle.listing.specs.Marks.{told_text}
 use Rattle.support.specs.ArmAll.{all_armed}
-use Rattle.support.specs.Filled.{new_list}
+use Rattle.host.specs.ListHost.{new_list_host}
 use Rattle.support.specs.PairBus.{new_pair_bus}
-use Rattle.support.specs.Transfer.{registers_address, register}
+use Rattle.support.specs.Sent.{registers_address, register}
 use Rattle.support.specs.declared.pair.Clocks.{Clocks}
 use Rattle.wire.specs.declared.event.Event.{Event}
 use Rattle.wire.specs.declared.event.Event.TheVariants.{Rise, Fall, Start, Stop, SteadyHigh, SteadyLow}
@@ -59,8 +59,8 @@ clocks_text c =
 -- two masters with a transfer each, and who is told at their first stop
 abbrev pub example_line : List ℕ → Transfer → Transfer → Clocks → List ℕ
 example_line name one other c =
-    let first = new_list (one ∷ []) in
-    let second = new_list (other ∷ []) in
+    let first = new_list_host (one ∷ []) in
+    let second = new_list_host (other ∷ []) in
     let u = new_pair_bus list_host registers_address c first second in
     name ++ (codes ", clocks " ++ (clocks_text c ++ (codes ": told" ++
     (told_at (first_stop u) ++ codes "\n"))))

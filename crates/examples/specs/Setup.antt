@@ -8,10 +8,10 @@ use Rattle.host.specs.Host.{HostBehaviour}
 use Rattle.host.specs.ListHost.{ListHostModel, list_host}
 use Rattle.master.specs.Master.{new_hosted_master}
 use Rattle.port.specs.Port.{new_port}
-use Rattle.law.specs.Bus.{BusModel, new_bus}
+use Rattle.law.specs.BusModel.{BusModel, new_bus}
 use Rattle.support.specs.declared.pair.Clocks.{Clocks}
-use Rattle.support.specs.Filled.{new_list}
-use Rattle.support.specs.Transfer.{events_address, event_read}
+use Rattle.host.specs.ListHost.{new_list_host}
+use Rattle.support.specs.Sent.{events_address, event_read}
 
 -- the low and the high count of each master
 abbrev pub counts : Clocks → (ℕ × ℕ) × (ℕ × ℕ)
@@ -35,4 +35,4 @@ queue_bus_of m =
 
 abbrev pub IsQueues : BusModel reader two_queues → Type 0
 IsQueues u =
-    (t : Transfer) × (transfer_model t ≡ event_read) × (u ≡ queue_bus_of (new_list (t ∷ [])))
+    (t : Transfer) × (transfer_model t ≡ event_read) × (u ≡ queue_bus_of (new_list_host (t ∷ [])))

@@ -9,13 +9,13 @@ use Rattle.master.specs.declared.mark.Mark.{Mark}
 use Rattle.master.specs.declared.mark.Mark.TheVariants.{Quiet}
 use Rattle.wire.specs.declared.wire.Signal.{Signal}
 use Rattle.law.specs.Bank.{Bank, bank_list}
-use Rattle.law.specs.Bus.{BusModel, HoldAnswers, Answered, no_holds, marks_over, tick_at, told_at, is_at_rest}
+use Rattle.law.specs.BusModel.{BusModel, HoldAnswers, Answered, no_holds, marks_over, tick_at, told_at, is_at_rest}
 use Rattle.master.specs.Master.{HostedMaster, mark_of, told_outcome, hosted_mark, hosted_told}
 use Rattle.master.specs.MasterState.{VerdictModel, quiet, lost, told, master_step}
 use Rattle.master.specs.Script.{transfers}
 use Rattle.exchange.specs.Bus.{TickAsked, RunTicksAsked, RunAsked}
 use Rattle.law.specs.Limits.{most_ticks}
-use Rattle.law.specs.Run.{some_count, told_count, Running, run_start, run_after_tick, run_after_ticks, RunTicksAnswered, RunAnswered, load, run_at}
+use Rattle.law.specs.RunModel.{some_count, told_count, Running, run_start, run_after_tick, run_after_ticks, RunTicksAnswered, RunAnswered, load, run_at}
 use Rattle.master.specs.Mark.{is_told}
 
 -- one master more, with its mark and the outcome that its host is told

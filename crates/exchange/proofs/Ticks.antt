@@ -10,7 +10,7 @@ use Rattle.wire.specs.declared.wire.Signal.{Signal}
 use Rattle.wire.specs.declared.wire.Wire.{Wire}
 use Rattle.law.specs.Bank.{Bank, bank_map, bank_list}
 use Rattle.law.specs.Limits.{most_masters}
-use Rattle.law.specs.Bus.{marks_over, HoldAnswers, ports_step, BusModel, levels_at, tick_at}
+use Rattle.law.specs.BusModel.{marks_over, HoldAnswers, ports_step, BusModel, levels_at, tick_at}
 use Rattle.master.specs.Master.{HostedMaster, hosted_step, hosted_mark}
 use Rattle.port.specs.Port.{PortModel}
 use Rattle.wire.specs.Pulls.{pulls_or, levels_of}

@@ -7,9 +7,9 @@ use Rattle.host.specs.Host.{HostBehaviour}
 use Rattle.wire.specs.Wire.{signal}
 use Rattle.wire.specs.declared.wire.Signal.{Signal}
 use Rattle.law.specs.declared.tick.Tick.{Tick}
-use Rattle.law.specs.Bus.{BusModel, HoldAnswers, Answered, levels_at, tick_at, is_at_rest}
+use Rattle.law.specs.BusModel.{BusModel, HoldAnswers, Answered, levels_at, tick_at, is_at_rest}
 use Rattle.law.specs.Limits.{most_ticks}
-use Rattle.law.specs.Run.{Running, run_start, run_after_tick, RunAnswered, run_at}
+use Rattle.law.specs.RunModel.{Running, run_start, run_after_tick, RunAnswered, run_at}
 use Rattle.exchange.specs.declared.masters.Masters as masters
 use Rattle.exchange.specs.declared.ports.Ports as ports
 use Rattle.exchange.specs.declared.bus.Bus.{Bus}

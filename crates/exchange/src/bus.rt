@@ -26,12 +26,12 @@ impl<M: Masters, P: Ports> Bus<M, P> {
     ghost use Rattle.std.specs.Prelude.{◌≡◌, ◌≤◌, length};
     ghost use Rattle.law.specs.AskedLaw.{EveryAsked};
     ghost use Rattle.law.specs.Bank.{bank_map};
-    ghost use Rattle.law.specs.Bus.{new_bus, is_at_rest};
+    ghost use Rattle.law.specs.BusModel.{new_bus, is_at_rest};
     ghost use Rattle.law.specs.Facts.{StringLaws, ByteLaws};
     ghost use Rattle.law.specs.Law.{EveryUse};
     ghost use Rattle.law.specs.Limits.{most_masters, most_ports};
     ghost use Rattle.exchange.specs.Bus.{bus_model};
-    ghost use Rattle.master.specs.Master.{hosted_new};
+    ghost use Rattle.master.specs.Master.{reset_hosted_master};
     ghost use Rattle.port.specs.Port.{reset_port};
 
     /// A bus of 1 to 8 masters and at most 16 ports. The parts are brought to rest: no master is armed, and every port is
@@ -90,7 +90,7 @@ impl<M: Masters, P: Ports> Bus<M, P> {
         ensures hosts { M.Masters.same_hosts self.masters result.0 }
         ensures devices { P.Ports.same_devices self.ports result.1 }
         ensures masters { M.Masters.model result.0 ≡
-            bank_map hosted_new M.Masters.hosts (M.Masters.model self.masters) }
+            bank_map reset_hosted_master M.Masters.hosts (M.Masters.model self.masters) }
         ensures ports { P.Ports.model result.1 ≡
             bank_map reset_port P.Ports.devices (P.Ports.model self.ports) }
     {
@@ -109,7 +109,7 @@ impl<M: Masters, P: Ports> Bus<M, P> {
 impl<M: Masters, P: Ports> Bus<M, P> {
     ghost use Rattle.std.specs.Prelude.{◌≡◌};
     ghost use Rattle.transfer.specs.Refusal.{answer};
-    ghost use Rattle.law.specs.Bus.{arm_at, NeverHold, no_holds, tick_at};
+    ghost use Rattle.law.specs.BusModel.{arm_at, NeverHold, no_holds, tick_at};
     ghost use Rattle.exchange.specs.Bus.{TicksTo, bus_model};
 
     /// Arms master number `master`, counted from 0, with what its host wants now. It is refused where there is no such
@@ -124,8 +124,8 @@ impl<M: Masters, P: Ports> Bus<M, P> {
     }
 
     /// One tick: what all parts pull gives the levels, the levels give the event, and every master and every port steps on
-    /// it. What the devices answer to hold alone is open, as far as they leave it open; where none of them may hold,
-    /// nothing is.
+    /// it. Only one thing is left open: what the devices answer to hold, as far as they leave it open. Where none of them
+    /// may hold, nothing is.
     pub fn tick(&mut self) -> Tick
         ensures answered { TicksTo self.old result self.new }
         ensures unheld { NeverHold P.Ports.devices → (result, bus_model self.new) ≡
@@ -149,9 +149,9 @@ impl<M: Masters, P: Ports> Bus<M, P> {
     ghost use Rattle.std.specs.Prelude.{◌≡◌, ◌≤◌};
     ghost use Rattle.transfer.specs.Refusal.{answer};
     ghost use Rattle.law.specs.declared.tick.Tick.{Tick};
-    ghost use Rattle.law.specs.Bus.{NeverHold, no_holds, told_at};
+    ghost use Rattle.law.specs.BusModel.{NeverHold, no_holds, told_at};
     ghost use Rattle.law.specs.Limits.{most_masters};
-    ghost use Rattle.law.specs.Run.{some_count, run_at};
+    ghost use Rattle.law.specs.RunModel.{some_count, run_at};
     ghost use Rattle.exchange.specs.Bus.{TicksTo, RunsTo, bus_model};
     ghost use Rattle.exchange.specs.Run.{run_model};
 

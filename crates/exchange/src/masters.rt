@@ -3,8 +3,8 @@ ghost use Rattle.std.specs.Prelude.{◌≡◌, List, [], ◌∷◌};
 ghost use Rattle.host.specs.Host.{HostBehaviour};
 ghost use Rattle.transfer.specs.Refusal.{answer};
 ghost use Rattle.law.specs.Bank.{any_true, Bank, bank_map, bank_list};
-ghost use Rattle.law.specs.Bus.{all_pulls, arm_master_at, marks_over, ClocksInRange};
-ghost use Rattle.master.specs.Master.{HostedMaster, SameHost, hosted_pulls, hosted_is_armed, hosted_new, hosted_step, hosted_mark, hosted_master};
+ghost use Rattle.law.specs.BusModel.{all_pulls, arm_master_at, marks_over, ClocksInRange};
+ghost use Rattle.master.specs.Master.{HostedMaster, SameHost, hosted_pulls, hosted_is_armed, reset_hosted_master, hosted_step, hosted_mark, hosted_master};
 ghost use Rattle.std.proofs.Common.{rules};
 
 use crate::end::End;
@@ -35,7 +35,7 @@ pub trait Masters {
     /// Each master as at its making: none is armed or pulls.
     fn reset(&mut self)
         ensures same { same_hosts self.old self.new }
-        ensures after { model self.new ≡ bank_map hosted_new hosts (model self.old) };
+        ensures after { model self.new ≡ bank_map reset_hosted_master hosts (model self.old) };
 
     /// Arms this master with what its host wants now. It is refused where there is no such master, then as the master
     /// refuses it, and a refusal changes nothing.

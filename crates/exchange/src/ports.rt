@@ -2,7 +2,7 @@
 ghost use Rattle.std.specs.Prelude.{◌≡◌, List, [], ◌∷◌};
 ghost use Rattle.device.specs.Device.{Behaviour};
 ghost use Rattle.law.specs.Bank.{Bank, bank_map, bank_list};
-ghost use Rattle.law.specs.Bus.{all_pulls, HoldAnswers, AllMayAnswer, ports_step};
+ghost use Rattle.law.specs.BusModel.{all_pulls, HoldAnswers, AllMayAnswer, ports_step};
 ghost use Rattle.port.specs.Port.{PortAsked, SameDevice, reset_port, PortModel, port_model, port_pulls};
 ghost use Rattle.wire.specs.declared.wire.Signal.{Signal};
 

@@ -1,7 +1,7 @@
 // What a run answers.
 ghost use Rattle.std.specs.Prelude.{◌≡◌, ◌≤◌};
 ghost use Rattle.law.specs.Limits.{most_ticks};
-ghost use Rattle.law.specs.Run.{load};
+ghost use Rattle.law.specs.RunModel.{load};
 
 /// How many ticks a run may be asked for.
 pub const MOST_TICKS: u32 = 1_000_000;

@@ -7,7 +7,7 @@ use Rattle.device.specs.Slow.{SlowModel, slow_over}
 use Rattle.host.specs.Host.{HostBehaviour}
 use Rattle.host.specs.ListHost.{ListHostModel, list_host}
 use Rattle.host.specs.PollHost.{PollHostModel, poll_host}
-use Rattle.law.specs.Bus.{BusModel, new_bus}
+use Rattle.law.specs.BusModel.{BusModel, new_bus}
 use Rattle.master.specs.Master.{HostedMaster, new_hosted_master}
 use Rattle.port.specs.Port.{PortModel, new_port}
 use Rattle.head.specs.Setup.{idle_registers, slow_queue, quick_queue, head_hosts, head_devices, head_of}

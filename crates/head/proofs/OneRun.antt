@@ -2,12 +2,12 @@
 use Rattle.std.proofs.Common.{◌≡◌, ℕ, List, max, refl, sym, ap, ◌∙◌, arith}
 use Rattle.device.specs.EventQueue.{event_queue}
 use Rattle.device.specs.Slow.{slow_over}
-use Rattle.law.specs.Bus.{BusModel, HoldAnswers, Answered, tick_at}
+use Rattle.law.specs.BusModel.{BusModel, HoldAnswers, Answered, tick_at}
 use Rattle.support.proofs.Kept.{kept_on}
 use Rattle.support.proofs.OneText.{only_run}
 use Rattle.support.proofs.SomeRun.{some_run}
-use Rattle.support.specs.PrintedRun.{OneHold, Listened, OnlyRun}
-use Rattle.head.specs.Run.{most_ticks}
+use Rattle.support.specs.PrintedRun.{OneHold, Listened, IsOnlyRun}
+use Rattle.head.specs.Run.{ticks_of_run}
 use Rattle.head.specs.Setup.{head_hosts, head_devices, IsHead}
 
 pub one_hold : OneHold head_devices
@@ -38,8 +38,8 @@ may_answer u five = (
 )
 
 pub one_run : (u : BusModel head_hosts head_devices) → IsHead u →
-    (text : List ℕ) × (end : Listened head_hosts head_devices) × OnlyRun head_hosts head_devices 3 most_ticks u text end
+    (text : List ℕ) × (end : Listened head_hosts head_devices) × IsOnlyRun head_hosts head_devices 3 ticks_of_run u text end
 one_run u (a, b, c, lists, polls, more, is) =
-    let (text, end, run) = some_run head_hosts head_devices 3 HoldsFive (λ v five. (answers, may_answer v five)) still_five most_ticks u
+    let (text, end, run) = some_run head_hosts head_devices 3 HoldsFive (λ v five. (answers, may_answer v five)) still_five ticks_of_run u
     (ap (λ v. v.ports.1.0.meaning.number) is) in
-    (text, end, only_run head_hosts head_devices one_hold 3 most_ticks u text end run)
+    (text, end, only_run head_hosts head_devices one_hold 3 ticks_of_run u text end run)

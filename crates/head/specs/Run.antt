@@ -2,10 +2,10 @@
 use Rattle.std.specs.Prelude.{ℕ, ◌*◌, List, [], ◌++◌, codes, decimal, Option, Some, None, Result}
 use Rattle.std.specs.declared.io.Error.{Error}
 use Rattle.transfer.specs.Outcome.{OutcomeModel, outcome_text}
-use Rattle.law.specs.Bus.{BusModel}
+use Rattle.law.specs.BusModel.{BusModel}
 use Rattle.law.specs.Limits.{most_ticks_of_turn}
 use Rattle.support.specs.Output.{Puts}
-use Rattle.support.specs.PrintedRun.{Listened, OnlyRun}
+use Rattle.support.specs.PrintedRun.{Listened, IsOnlyRun}
 use Rattle.text.specs.Digits.{bytes_text}
 use Rattle.head.specs.Setup.{head_hosts, head_devices, IsHead}
 
@@ -27,8 +27,8 @@ end_text u =
     registers_line u.ports.0.meaning.below.bytes))
 
 -- far more than the lists and the polls of the head take
-abbrev pub most_ticks : ℕ
-most_ticks = 16 * most_ticks_of_turn
+abbrev pub ticks_of_run : ℕ
+ticks_of_run = 16 * most_ticks_of_turn
 
 module _ {W : Type 0} (takes : W → List ℕ → W → Type 0)
     (fails : W → List ℕ → Error → W → Type 0) where
@@ -38,5 +38,5 @@ module _ {W : Type 0} (takes : W → List ℕ → W → Type 0)
   PrintsHead out r after =
       (u : BusModel head_hosts head_devices) × IsHead u ×
       (text : List ℕ) × (end : Listened head_hosts head_devices) ×
-      OnlyRun head_hosts head_devices 3 most_ticks u text end ×
+      IsOnlyRun head_hosts head_devices 3 ticks_of_run u text end ×
       Puts takes fails (text ++ end_text end.bus) out r after

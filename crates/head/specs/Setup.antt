@@ -10,11 +10,11 @@ use Rattle.device.specs.Slow.{SlowModel, slow_over}
 use Rattle.host.specs.Host.{HostBehaviour}
 use Rattle.host.specs.ListHost.{ListHostModel, list_host}
 use Rattle.host.specs.PollHost.{PollHostModel, poll_host}
-use Rattle.law.specs.Bus.{BusModel, new_bus}
+use Rattle.law.specs.BusModel.{BusModel, new_bus}
 use Rattle.master.specs.Master.{HostedMaster, new_hosted_master}
 use Rattle.port.specs.Port.{new_port}
-use Rattle.support.specs.Filled.{new_list}
-use Rattle.support.specs.Transfer.{registers_address, events_address, register, event_read, register_write}
+use Rattle.host.specs.ListHost.{new_list_host}
+use Rattle.support.specs.Sent.{registers_address, events_address, register, event_read, register_write}
 
 -- no port has this address
 abbrev pub nobodys_address : ℕ
@@ -38,7 +38,7 @@ probe_write = write_to nobodys_address []
 abbrev pub Lists : TransferModel → TransferModel → ListHostModel → Type 0
 Lists a b m =
     (t : Transfer) × (u : Transfer) × (transfer_model t ≡ a) × (transfer_model u ≡ b) ×
-    (m ≡ new_list (t ∷ u ∷ []))
+    (m ≡ new_list_host (t ∷ u ∷ []))
 
 -- the highest bit of an event
 abbrev pub alarm_mask : ℕ

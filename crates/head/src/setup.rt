@@ -4,7 +4,7 @@ ghost use Rattle.device.specs.EventQueue.{event_queue, queue_model};
 ghost use Rattle.device.specs.Slow.{slow_model};
 ghost use Rattle.exchange.specs.Bus.{bus_model};
 ghost use Rattle.master.specs.Master.{hosted_master};
-ghost use Rattle.support.specs.Transfer.{event_read};
+ghost use Rattle.support.specs.Sent.{event_read};
 ghost use Rattle.head.specs.Setup.{log_write, log_read, service_write, probe_write, slow_queue, ListsAt, PollsAt, IsHead};
 
 use device::{Busy, EventQueue, RegisterFile, Slow};

@@ -17,12 +17,16 @@ pub record ListHostModel : Type 0 where
 abbrev pub list_host_model : ListHost → ListHostModel
 list_host_model h = record { rest = h.transfers; last = option_map outcome_model h.last }
 
+-- it wants these transfers, and was told nothing yet
+abbrev pub new_list_host : List Transfer → ListHostModel
+new_list_host ts = record { rest = ts; last = None }
+
 -- the answer to a fill, and the host after it: a new list in the place of the old
-abbrev pub list_host_after_fill :
+abbrev pub list_host_answer_to_fill :
     List Transfer → ListHostModel → Result (Unit {0}) ℕ × ListHostModel
-list_host_after_fill ts m =
+list_host_answer_to_fill ts m =
     if nat_le (length ts) most_items
-    then (Ok tt, record { rest = ts; last = None })
+    then (Ok tt, new_list_host ts)
     else (Err (number LengthOutOfRange), m)
 
 abbrev pub list_host : HostBehaviour

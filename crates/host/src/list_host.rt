@@ -11,14 +11,14 @@ pub struct ListHost {
 
 impl ListHost {
     ghost use Rattle.std.specs.Option.{option_map};
-    ghost use Rattle.std.specs.Prelude.{◌≡◌, [], None};
+    ghost use Rattle.std.specs.Prelude.{◌≡◌, []};
     ghost use Rattle.transfer.specs.Outcome.{outcome_model};
     ghost use Rattle.transfer.specs.Refusal.{answer};
-    ghost use Rattle.host.specs.ListHost.{list_host_model, list_host_after_fill};
+    ghost use Rattle.host.specs.ListHost.{list_host_model, new_list_host, list_host_answer_to_fill};
 
     /// An empty list, and no outcome.
     pub fn new() -> ListHost
-        ensures { list_host_model result ≡ record { rest = []; last = None } }
+        ensures { list_host_model result ≡ new_list_host [] }
     {
         ListHost {
             transfers: Fifo::new(Transfer::filler()),
@@ -30,7 +30,7 @@ impl ListHost {
     /// refused, and changes nothing.
     pub fn fill(&mut self, transfers: &[Transfer]) -> Result<(), Refusal>
         ensures { (answer (λ u. u) result, list_host_model self.new)
-            ≡ list_host_after_fill transfers.now (list_host_model self.old) }
+            ≡ list_host_answer_to_fill transfers.now (list_host_model self.old) }
     {
         self.transfers.fill(transfers)?;
         self.last = None;

@@ -10,10 +10,10 @@ use Rattle.wire.specs.declared.event.Event.{Event}
 use Rattle.wire.specs.declared.wire.Signal.{Signal}
 use Rattle.wire.specs.Wire.{signal}
 use Rattle.law.specs.Bank.{Bank}
-use Rattle.law.specs.Bus.{BusModel, HoldAnswers, AllMayAnswer, NeverHold, no_holds}
-use Rattle.law.specs.Bus.{Answered, ports_step, tick_at, told_at, levels_at, is_at_rest}
-use Rattle.law.specs.Run.{some_count, Running, run_after_tick, run_after_ticks}
-use Rattle.law.specs.Run.{RunTicksAnswered, run_start, run_report, RunAnswered, run_at}
+use Rattle.law.specs.BusModel.{BusModel, HoldAnswers, AllMayAnswer, NeverHold, no_holds}
+use Rattle.law.specs.BusModel.{Answered, ports_step, tick_at, told_at, levels_at, is_at_rest}
+use Rattle.law.specs.RunModel.{some_count, Running, run_after_tick, run_after_ticks}
+use Rattle.law.specs.RunModel.{RunTicksAnswered, run_start, run_report, RunAnswered, run_at}
 use Rattle.law.specs.Limits.{most_ticks}
 
 module _ (b : Behaviour) where

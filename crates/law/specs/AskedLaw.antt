@@ -14,12 +14,12 @@ use Rattle.port.specs.Port.{PortModel}
 use Rattle.master.specs.Master.{HostedMaster}
 use Rattle.law.specs.Bank.{Bank, bank_list}
 use Rattle.law.specs.Book.{contender_transfer, closed, opened}
-use Rattle.law.specs.Bus.{told_at}
+use Rattle.law.specs.BusModel.{told_at}
 use Rattle.law.specs.TransferResult.{AddressedDevice, joint_byte, transfer_result}
-use Rattle.law.specs.Facts.{read_leg}
+use Rattle.transfer.specs.Leg.{read_leg}
 use Rattle.law.specs.Limits.{bits_of_byte, letters_of_byte}
 use Rattle.law.specs.Letter.{Letter}
-use Rattle.law.specs.Use.{Call, Use, event_at, monitor_after, steps_at, no_steps, steps_then, new_use, use_after}
+use Rattle.law.specs.Use.{Call, Use, event_at, monitor_with_event, steps_at, no_steps, steps_then, new_use, use_after}
 
 -- a device's meaning, and the steps that were asked of it
 pub record StepsNoted (b : Behaviour) : Type 0 where
@@ -182,7 +182,7 @@ module _ (hs : List HostBehaviour) (ds : List Behaviour) where
       pub so_far : List Letter
       pub place : length so_far ≡ acknowledge_at t k m
       pub acknowledge :
-          (monitor_after hs ds x.watch x.book Fall).spelled ≡ so_far ++ (Letter.zero ∷ [])
+          (monitor_with_event hs ds x.watch x.book Fall).spelled ≡ so_far ++ (Letter.zero ∷ [])
 
   -- what holds of the steps asked
   pub record AskedLaw (x : Use hs ds) : Type 0 where

@@ -1,4 +1,4 @@
--- Parts of many makes side by side: one part and the rest.
+-- Parts of different types side by side: one part and the rest.
 use Rattle.std.specs.Prelude.{ℕ, zero, suc, Bool, List, [], ◌∷◌}
 use Rattle.std.specs.List.{list_any}
 

@@ -1,6 +1,8 @@
 -- The turn book: who is armed, who contends, and what each host and device means, by turns alone.
 use Rattle.std.specs.Prelude.{ℕ, Bool, true, false, if◌then◌else◌, List, [], ◌∷◌, map, Some, None, Err, Option, Result}
 use Rattle.std.specs.Option.{option_map}
+use Rattle.transfer.specs.declared.refusal.Refusal.TheVariants.{NoSuchMaster}
+use Rattle.transfer.specs.Refusal.{number}
 use Rattle.transfer.specs.declared.draft.Transfer.{Transfer}
 use Rattle.transfer.specs.Transfer.{TransferModel, transfer_model}
 use Rattle.transfer.specs.Outcome.{OutcomeModel}
@@ -10,7 +12,7 @@ use Rattle.master.specs.declared.arming.Arming.{Arming}
 use Rattle.master.specs.declared.arming.Arming.TheVariants.{Unarmed}
 use Rattle.wire.specs.declared.event.Event.{Event}
 use Rattle.wire.specs.declared.event.Event.TheVariants.{Rise, Fall, Start, Stop, SteadyHigh, SteadyLow}
-use Rattle.master.specs.Arming.{is_armed, arming_after_arm}
+use Rattle.master.specs.Arming.{is_armed, answer_to_arm}
 use Rattle.law.specs.Bank.{Bank, bank_map, bank_list, bank_update, any_true}
 use Rattle.law.specs.TransferResult.{AddressedDevice, TransferResult, transfer_result}
 use Rattle.law.specs.Letter.{same_string, first_or_same}
@@ -28,7 +30,7 @@ module _ (h : HostBehaviour) where
   entry_is_armed x = is_armed x.arming
 
   abbrev pub entry_arm : Entry h → Result (Unit {0}) ℕ × Entry h
-  entry_arm x = let a = arming_after_arm x.arming (option_map (λ t. tt) (h.want x.meaning)) in
+  entry_arm x = let a = answer_to_arm x.arming (option_map (λ t. tt) (h.want x.meaning)) in
       (a.0, record x { arming = a.1 })
 
   -- a turn opens for the masters armed
@@ -52,10 +54,10 @@ module _ (h : HostBehaviour) where
     contends = false;
   }
 
--- past the last master the answer is 5
+-- past the last master it is refused
 abbrev pub arm_entry_at : (hs : List HostBehaviour) →
     Bank Entry hs → ℕ → Result (Unit {0}) ℕ × Bank Entry hs
-arm_entry_at hs p n = bank_update (Err 5) entry_arm hs p n
+arm_entry_at hs p n = bank_update (Err (number NoSuchMaster)) entry_arm hs p n
 
 -- what each master is told, in their order
 abbrev pub entries_after_turn : (hs : List HostBehaviour) →

@@ -4,10 +4,10 @@ use Rattle.std.specs.List.{fold}
 use Rattle.transfer.specs.declared.leg.Direction.TheVariants.{Write, Read}
 use Rattle.transfer.specs.declared.outcome.OutcomeKind.TheVariants.{Done}
 use Rattle.transfer.specs.Transfer.{TransferModel}
-use Rattle.transfer.specs.Leg.{writes, reads, LegModel}
+use Rattle.transfer.specs.Leg.{writes, reads, LegModel, write_leg, read_leg}
 use Rattle.device.specs.Device.{Behaviour}
 use Rattle.law.specs.Bank.{Bank, bank_map, bank_list, BankAll}
-use Rattle.law.specs.TransferResult.{AddressedDevice, DeviceInLeg, device_after_call, device_put, device_after_take, byte_given_by, joint_byte, any_in, leg_result, transfer_result}
+use Rattle.law.specs.TransferResult.{AddressedDevice, DeviceInLeg, device_after_call, device_after_put, device_after_take, byte_given_by, joint_byte, any_in, leg_result, transfer_result}
 use Rattle.law.specs.Legal.{IsLegal}
 use Rattle.law.specs.Limits.{bits_of_byte, letters_of_byte, most_letters}
 use Rattle.wire.specs.ByteProgress.{bit_at}
@@ -103,7 +103,7 @@ Exists Q (b ∷ ds) d = Q b d.0 ⊎ Exists Q ds d.1
 module _ (ds : List Behaviour) where
   -- the devices in a leg after these bytes were put, or after this many were taken
   abbrev pub devices_after_puts : List ℕ → Bank DeviceInLeg ds → Bank DeviceInLeg ds
-  devices_after_puts xs e = fold (λ p x. bank_map (λ b. device_put b x) ds p) e xs
+  devices_after_puts xs e = fold (λ p x. bank_map (λ b. device_after_put b x) ds p) e xs
 
   abbrev pub devices_after_takes : ℕ → Bank DeviceInLeg ds → Bank DeviceInLeg ds
   devices_after_takes zero e = e
@@ -112,12 +112,6 @@ module _ (ds : List Behaviour) where
   -- the byte that those in the leg give together
   abbrev pub byte_of_devices : Bank DeviceInLeg ds → ℕ
   byte_of_devices e = joint_byte (bank_list byte_given_by ds e)
-
-abbrev pub write_leg : ℕ → List ℕ → LegModel
-write_leg a xs = record { address = a; body = writes xs }
-
-abbrev pub read_leg : ℕ → ℕ → LegModel
-read_leg a n = record { address = a; body = reads n }
 
 -- a device whose port matches, which said yes to select, is in, and says yes to this byte
 pub record Accepts (a x : ℕ) (b : Behaviour) (p : DeviceInLeg b) : Type 0 where

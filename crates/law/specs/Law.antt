@@ -10,13 +10,13 @@ use Rattle.port.specs.Port.{PortModel}
 use Rattle.wire.specs.Pulls.{no_pulls}
 use Rattle.law.specs.Bank.{Bank, bank_map, bank_list, any_true}
 use Rattle.law.specs.Book.{entry_is_armed, opened, book_arm, book_told, contender_results, least_result}
-use Rattle.law.specs.Bus.{HoldAnswers, marks_over, arm_at, levels_at, tick_at, told_at}
+use Rattle.law.specs.BusModel.{HoldAnswers, marks_over, arm_at, levels_at, tick_at, told_at}
 use Rattle.law.specs.Letter.{Letter, zero as low, rank, first_or_same}
 use Rattle.law.specs.Limits.{most_masters, most_ticks, most_ticks_of_turn}
-use Rattle.law.specs.Run.{RunModel, run_at}
+use Rattle.law.specs.RunModel.{RunModel, run_at}
 use Rattle.master.specs.Mark.{is_told}
 use Rattle.law.specs.TransferResult.{TransferResult}
-use Rattle.law.specs.Use.{Call, runs, Use, event_at, marks_of, monitor_after, use_after_call, use_after, addressed_device, new_use, armed_now, ticks_of_call, ticks_of, in_ticks}
+use Rattle.law.specs.Use.{Call, runs, Use, event_at, marks_of, monitor_with_event, use_after_call, use_after, addressed_device, new_use, armed_now, ticks_of_call, ticks_of, in_ticks}
 
 abbrev pub true_count : List Bool → ℕ
 true_count vs = count_by (λ v. v) vs
@@ -54,8 +54,8 @@ module _ (hs : List HostBehaviour) (ds : List Behaviour) where
     pub leads : least_result ds (contender_results hs ds x.book) ≡ Some best
     -- its string first differs from the least in the symbol that is shown, which has risen
     pub letter : ℕ
-    pub shown : (monitor_after hs ds x.watch x.book (event_at hs ds x.bus)).falls ≡ suc letter
-    pub risen : (monitor_after hs ds x.watch x.book (event_at hs ds x.bus)).risen ≡ true
+    pub shown : (monitor_with_event hs ds x.watch x.book (event_at hs ds x.bus)).falls ≡ suc letter
+    pub risen : (monitor_with_event hs ds x.watch x.book (event_at hs ds x.bus)).risen ≡ true
     pub first : FirstDifference best.letters own.letters letter
 
   -- what the stop in the next tick says of a contender i: told are those never marked lost, and
@@ -87,7 +87,7 @@ module _ (hs : List HostBehaviour) (ds : List Behaviour) where
     -- what was spelled is the least string
     pub spells : event_at hs ds x.bus ≡ Stop → x.book.turn ≡ opened →
         (best : TransferResult ds) → least_result ds (contender_results hs ds x.book) ≡ Some best →
-        (monitor_after hs ds x.watch x.book (event_at hs ds x.bus)).spelled ≡ best.letters
+        (monitor_with_event hs ds x.watch x.book (event_at hs ds x.bus)).spelled ≡ best.letters
 
   pub record Law (x : Use hs ds) : Type 0 where
     pub point : Point x

@@ -1,13 +1,13 @@
 pub mod Limits
 pub mod Bank
-pub mod Bus
+pub mod BusModel
 pub mod Letter
 pub mod TransferResult
 pub mod Legal
 pub mod Facts
 pub mod Book
 pub mod WorkedExamples
-pub mod Run
+pub mod RunModel
 pub mod Monitor
 pub mod Use
 pub mod Law

@@ -5,8 +5,8 @@ use Rattle.transfer.specs.declared.leg.Direction.{Direction}
 use Rattle.transfer.specs.declared.outcome.OutcomeKind.{OutcomeKind}
 use Rattle.transfer.specs.declared.outcome.OutcomeKind.TheVariants.{Done, NoAnswer, Refused}
 use Rattle.transfer.specs.Transfer.{TransferModel}
-use Rattle.transfer.specs.Leg.{BodyModel, writes, reads, LegModel, body_direction}
-use Rattle.transfer.specs.Outcome.{OutcomeModel}
+use Rattle.transfer.specs.Leg.{BodyModel, writes, reads, LegModel, body_direction, address_byte}
+use Rattle.transfer.specs.Outcome.{OutcomeModel, outcome_of_kind}
 use Rattle.device.specs.Device.{Behaviour}
 use Rattle.law.specs.Bank.{Bank, bank_map, bank_list, any_true}
 use Rattle.wire.specs.ByteProgress.{bit_at}
@@ -36,12 +36,12 @@ module _ (b : Behaviour) where
       then device_after_select d (b.select d.meaning r)
       else device_after_select d (false, d.meaning)
 
-  abbrev pub device_after_put : DeviceInLeg b → Bool × b.Meaning → DeviceInLeg b
-  device_after_put d a = record d { meaning = a.1; inside = a.0 }
+  abbrev pub device_with_answer : DeviceInLeg b → Bool × b.Meaning → DeviceInLeg b
+  device_with_answer d a = record d { meaning = a.1; inside = a.0 }
 
   -- a written byte is put to all that are in, and a no puts out
-  abbrev pub device_put : ℕ → DeviceInLeg b → DeviceInLeg b
-  device_put x d = if d.inside then device_after_put d (b.put d.meaning x) else d
+  abbrev pub device_after_put : ℕ → DeviceInLeg b → DeviceInLeg b
+  device_after_put x d = if d.inside then device_with_answer d (b.put d.meaning x) else d
 
   -- a byte is taken from all that are in
   abbrev pub device_after_take : DeviceInLeg b → DeviceInLeg b
@@ -66,11 +66,6 @@ module _ (b : Behaviour) where
 abbrev pub joint_byte : List ℕ → ℕ
 joint_byte [] = 255
 joint_byte (x ∷ xs) = bit_and x (joint_byte xs)
-
--- the byte that calls for a leg: the address, and a lowest bit of 1 for a read
-abbrev pub call_byte : ℕ → BodyModel → ℕ
-call_byte a (writes xs) = a * 2
-call_byte a (reads n) = a * 2 + 1
 
 -- the levels of a byte, and its acknowledge: true is N
 abbrev pub byte_levels : ℕ → Bool → List Bool
@@ -100,7 +95,7 @@ module _ (ds : List Behaviour) where
   -- byte n of leg k and those after it; an acknowledge is N with none in, and ends the transfer
   abbrev pub write_result : ℕ → List ℕ → ℕ → Bank DeviceInLeg ds → LegResult
   write_result k [] n d = leg_end Done d
-  write_result k (x ∷ xs) n d = let e = bank_map (λ b. device_put b x) ds d in
+  write_result k (x ∷ xs) n d = let e = bank_map (λ b. device_after_put b x) ds d in
       if any_in e
       then with_byte (byte_levels x false) [] (write_result k xs (suc n) e)
       else with_byte (byte_levels x true) [] (leg_end (Refused (record { leg = k; byte = n })) e)
@@ -119,7 +114,7 @@ module _ (ds : List Behaviour) where
   abbrev pub leg_result : ℕ → LegModel → Bank AddressedDevice ds → LegResult
   leg_result k g d =
       let e = bank_map (λ b. device_after_call b g.address (body_direction g.body)) ds d in
-      let x = call_byte g.address g.body in
+      let x = address_byte g.address g.body in
       if any_in e
       then with_byte (byte_levels x false) [] (body_result k g.body e)
       else with_byte (byte_levels x true) [] (leg_end (NoAnswer (record { leg = k })) e)
@@ -128,12 +123,6 @@ module _ (ds : List Behaviour) where
     pub letters : List Letter
     pub outcome : OutcomeModel
     pub devices : Bank AddressedDevice ds
-
-  -- only a done outcome has bytes read
-  abbrev pub outcome_of_kind : OutcomeKind → List ℕ → OutcomeModel
-  outcome_of_kind Done xs = record { kind = Done; bytes = xs }
-  outcome_of_kind (NoAnswer p) xs = record { kind = NoAnswer p; bytes = [] }
-  outcome_of_kind (Refused p) xs = record { kind = Refused p; bytes = [] }
 
   -- the stop, after the bytes xs of an earlier leg
   abbrev pub result_at_stop : List ℕ → LegResult → TransferResult

@@ -12,10 +12,10 @@ use Rattle.wire.specs.Event.{event_between}
 use Rattle.wire.specs.Wire.{signal}
 use Rattle.law.specs.Bank.{Bank, bank_map, bank_list}
 use Rattle.law.specs.Book.{Entry, closed, is_open, Book, book_arm, book_after}
-use Rattle.law.specs.Bus.{BusModel, HoldAnswers, new_bus, arm_at, levels_at, tick_at, told_at, is_at_rest}
+use Rattle.law.specs.BusModel.{BusModel, HoldAnswers, new_bus, arm_at, levels_at, tick_at, told_at, is_at_rest}
 use Rattle.law.specs.Limits.{most_ticks}
 use Rattle.law.specs.Monitor.{Monitor, new_monitor, monitor_after_event, monitor_after_marks}
-use Rattle.law.specs.Run.{some_count}
+use Rattle.law.specs.RunModel.{some_count}
 use Rattle.law.specs.TransferResult.{AddressedDevice}
 
 -- each list with what is new behind it
@@ -64,8 +64,8 @@ module _ (hs : List HostBehaviour) (ds : List Behaviour) where
   no_steps u = bank_list (λ b p. []) ds u.ports
 
   -- a turn that opens is monitored from its first tick on
-  abbrev pub monitor_after : Monitor → Book hs ds → Event → Monitor
-  monitor_after w b e =
+  abbrev pub monitor_with_event : Monitor → Book hs ds → Event → Monitor
+  monitor_with_event w b e =
       if is_open b.turn then monitor_after_event w e
       else if is_open (book_after hs ds b e).turn
       then new_monitor (bank_list (λ h x. false) hs b.entries)
@@ -88,7 +88,7 @@ module _ (hs : List HostBehaviour) (ds : List Behaviour) where
   use_after_tick x a = record x {
     bus = (tick_at hs ds x.bus a).1;
     book = book_after hs ds x.book (event_at x.bus);
-    watch = monitor_after_marks (monitor_after x.watch x.book (event_at x.bus)) (marks_of x.bus);
+    watch = monitor_after_marks (monitor_with_event x.watch x.book (event_at x.bus)) (marks_of x.bus);
     asked = steps_then x;
     told = x.told + some_count (told_at hs ds x.bus);
   }

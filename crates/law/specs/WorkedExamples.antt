@@ -4,7 +4,7 @@ use Rattle.transfer.specs.declared.draft.Transfer.{Transfer}
 use Rattle.transfer.specs.declared.outcome.OutcomeKind.TheVariants.{Done, NoAnswer, Refused}
 use Rattle.transfer.specs.Address.{checked_address}
 use Rattle.transfer.specs.ClockPair.{checked_counts}
-use Rattle.transfer.specs.Transfer.{TransferModel, transfer_model, after_write, after_read}
+use Rattle.transfer.specs.Transfer.{TransferModel, transfer_model, answer_to_write, answer_to_read, write_to, read_from, write_then_read}
 use Rattle.transfer.specs.Leg.{writes, reads}
 use Rattle.transfer.specs.Outcome.{OutcomeModel}
 use Rattle.device.specs.Device.{Behaviour}
@@ -13,7 +13,7 @@ use Rattle.device.specs.declared.selection.Selection.TheVariants.{Closed}
 use Rattle.device.specs.EventQueue.{event_queue}
 use Rattle.device.specs.RegisterFile.{RegisterFileModel, new_registers, register_file}
 use Rattle.host.specs.Host.{HostBehaviour}
-use Rattle.host.specs.ListHost.{list_host}
+use Rattle.host.specs.ListHost.{list_host, new_list_host}
 use Rattle.master.specs.declared.arming.Arming.{Arming}
 use Rattle.master.specs.declared.arming.Arming.TheVariants.{Unarmed, Armed}
 use Rattle.wire.specs.declared.event.Event.TheVariants.{Stop, SteadyHigh}
@@ -30,10 +30,10 @@ pub record RefusedExamples : Type 0 where
   pub address_119 : checked_address 119 ≡ Ok 119
   pub counts_0_1 : checked_counts 0 1 ≡ Err 2
   pub counts_1_255 : checked_counts 1 255 ≡ Ok (1, 255)
-  pub read_0 : (d : TransferModel) → after_read 0 d ≡ (Err 4, d)
-  pub read_17 : (d : TransferModel) → after_read 17 d ≡ (Err 4, d)
-  pub write_17 : (xs : List ℕ) (d : TransferModel) → length xs ≡ 17 → after_write xs d ≡ (Err 4, d)
-  pub read_16 : (d : TransferModel) → (after_read 16 d).0 ≡ Ok tt
+  pub read_0 : (d : TransferModel) → answer_to_read 0 d ≡ (Err 4, d)
+  pub read_17 : (d : TransferModel) → answer_to_read 17 d ≡ (Err 4, d)
+  pub write_17 : (xs : List ℕ) (d : TransferModel) → length xs ≡ 17 → answer_to_write xs d ≡ (Err 4, d)
+  pub read_16 : (d : TransferModel) → (answer_to_read 16 d).0 ≡ Ok tt
 
 -- two masters with a list host each, over one device
 abbrev pub two_hosts : List HostBehaviour
@@ -41,7 +41,7 @@ two_hosts = list_host ∷ list_host ∷ []
 
 abbrev pub entry : Transfer → Entry list_host
 entry t = record {
-  meaning = record { rest = t ∷ []; last = None };
+  meaning = new_list_host (t ∷ []);
   arming = Unarmed;
   contends = false;
 }
@@ -80,20 +80,17 @@ module _ (b : Behaviour) where
         (book_after two_hosts (b ∷ []) (open_book f g m) Stop).entries.1.0.arming ≡ arming_1
 
 abbrev pub write_of : List ℕ → TransferModel
-write_of xs = record { first = record { address = 0x50; body = writes xs }; second = None }
+write_of xs = write_to 0x50 xs
 
 abbrev pub read_of : ℕ → TransferModel
-read_of n = record { first = record { address = 0x50; body = reads n }; second = None }
+read_of n = read_from 0x50 n
 
 abbrev pub write_then_read_of : List ℕ → ℕ → TransferModel
-write_then_read_of xs n = record {
-  first = record { address = 0x50; body = writes xs };
-  second = Some (record { address = 0x50; body = reads n });
-}
+write_then_read_of xs n = write_then_read 0x50 xs n
 
 -- to an address that no port has
 abbrev pub write_elsewhere : List ℕ → TransferModel
-write_elsewhere xs = record { first = record { address = 0x51; body = writes xs }; second = None }
+write_elsewhere xs = write_to 0x51 xs
 
 abbrev pub done_with : List ℕ → Option OutcomeModel
 done_with xs = Some (record { kind = Done; bytes = xs })
@@ -238,7 +235,7 @@ queues xs ys =
     (record { address = 0x51; meaning = xs }, (record { address = 0x51; meaning = ys }, tt))
 
 abbrev pub read_queue : TransferModel
-read_queue = record { first = record { address = 0x51; body = reads 1 }; second = None }
+read_queue = read_from 0x51 1
 
 pub record QueueExample : Type 0 where
   pub joined : (transfer_result two_queues read_queue (queues (0x3C ∷ []) (0x5A ∷ []))).outcome ≡

@@ -18,7 +18,7 @@ pub struct Tick {
 
 impl Tick {
     ghost use Rattle.law.specs.Limits.{most_masters};
-    ghost use Rattle.law.specs.Run.{told_count};
+    ghost use Rattle.law.specs.RunModel.{told_count};
 
     /// How many outcomes it told: one for each master with the mark `Told`.
     pub fn outcome_count(&self) -> u32

@@ -2,7 +2,7 @@
 use Rattle.std.specs.Prelude.{ℕ, suc, ◌+◌, ◌*◌, Bool, true, false, if◌then◌else◌, List, [], ◌∷◌, ◌++◌, codes}
 use Rattle.std.specs.List.{flat_map}
 use Rattle.law.specs.Limits.{most_masters}
-use Rattle.master.specs.Mark.{is_told, is_lost}
+use Rattle.master.specs.Mark.{is_told, is_lost, is_quiet}
 use Rattle.master.specs.declared.mark.Mark.{Mark}
 use Rattle.master.specs.declared.mark.Mark.TheVariants.{Quiet, Told, Lost}
 use Rattle.listing.specs.declared.marks.Marks.{Marks}
@@ -19,11 +19,6 @@ wire_line d Start = line_of d (codes "S")
 wire_line d (Byte b) = line_of d (byte_text b)
 wire_line d Stop = []
 wire_line d Nothing = []
-
-abbrev pub is_quiet : Mark → Bool
-is_quiet Quiet = true
-is_quiet Told = false
-is_quiet Lost = false
 
 -- whether the second is the first
 abbrev pub is_mark : Mark → Mark → Bool

@@ -15,8 +15,8 @@ const DIGITS: usize = 20;
 // Room for a number and the letter of a loser.
 const LOSER: usize = DIGITS + 3;
 
-// Room for the longest lines of a tick: a byte, all masters but lost, and a stop that tells all of them.
-const LINES: usize = 265;
+// Room for the line of a byte, one for the loss of each master, and that of a stop that tells all of them.
+const LINES: usize = (DIGITS + 6) + MOST_MASTERS * (LOSER + 2) + (DIGITS + 3 + 2 * MOST_MASTERS);
 
 /// What one tick shows; it prints as its lines.
 #[derive(Clone, Copy, PartialEq, Eq, Debug)]

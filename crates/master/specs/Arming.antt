@@ -14,7 +14,7 @@ arming_map f Unarmed = Unarmed
 arming_map f (Armed t) = Armed (f t)
 
 -- what arming answers, and what it leaves: an armed master is refused, and one whose host wants nothing
-abbrev pub arming_after_arm : {T : Type 0} → Arming T → Option T → Result (Unit {0}) ℕ × Arming T
-arming_after_arm (Armed t) want = (Err (number ArmedAlready), Armed t)
-arming_after_arm Unarmed None = (Err (number NothingWanted), Unarmed)
-arming_after_arm Unarmed (Some t) = (Ok tt, Armed t)
+abbrev pub answer_to_arm : {T : Type 0} → Arming T → Option T → Result (Unit {0}) ℕ × Arming T
+answer_to_arm (Armed t) want = (Err (number ArmedAlready), Armed t)
+answer_to_arm Unarmed None = (Err (number NothingWanted), Unarmed)
+answer_to_arm Unarmed (Some t) = (Ok tt, Armed t)

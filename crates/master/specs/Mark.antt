@@ -12,3 +12,8 @@ abbrev pub is_lost : Mark → Bool
 is_lost Quiet = false
 is_lost Told = false
 is_lost Lost = true
+
+abbrev pub is_quiet : Mark → Bool
+is_quiet Quiet = true
+is_quiet Told = false
+is_quiet Lost = false

@@ -57,8 +57,8 @@ module _ (h : HostBehaviour) where
   abbrev pub new_hosted_master : ℕ → ℕ → h.Meaning → HostedMaster h
   new_hosted_master low high m = record { master = new_master transfers low high; meaning = m }
 
-  abbrev pub hosted_new : HostedMaster h → HostedMaster h
-  hosted_new x = new_hosted_master x.master.low x.master.high x.meaning
+  abbrev pub reset_hosted_master : HostedMaster h → HostedMaster h
+  reset_hosted_master x = new_hosted_master x.master.low x.master.high x.meaning
 
   abbrev pub with_master : HostedMaster h → Result (Unit {0}) ℕ × MasterModel transfers →
       Result (Unit {0}) ℕ × HostedMaster h

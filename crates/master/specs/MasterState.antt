@@ -16,7 +16,7 @@ use Rattle.wire.specs.declared.event.Event.{Event}
 use Rattle.wire.specs.declared.event.Event.TheVariants.{Rise, Fall, Start, Stop, SteadyHigh, SteadyLow}
 use Rattle.wire.specs.declared.pulls.Pulls.{Pulls}
 use Rattle.wire.specs.declared.wire.Signal.{Signal}
-use Rattle.master.specs.Arming.{arming_map, arming_after_arm}
+use Rattle.master.specs.Arming.{arming_map, answer_to_arm}
 use Rattle.master.specs.Cursor.{cursor_model}
 use Rattle.master.specs.Script.{Script, transfers}
 use Rattle.master.specs.Symbol.{pulls_sda}
@@ -130,7 +130,7 @@ module _ (W : Script) where
   master_step m s = stage_step m m.stage s.event s.bit s.free_and_high
 
   abbrev pub arm_master : MasterModel → Option W.Task → Result (Unit {0}) ℕ × MasterModel
-  arm_master m want = let a = arming_after_arm m.arming want in
+  arm_master m want = let a = answer_to_arm m.arming want in
       (a.0, record m { arming = a.1 })
 
 abbrev pub stage_model : Stage → StageModel transfers

@@ -58,7 +58,7 @@ impl<H: Host> Master<H> {
 impl<H: Host> Master<H> {
     ghost use Rattle.std.specs.Prelude.{◌≡◌};
     ghost use Rattle.transfer.specs.Refusal.{answer};
-    ghost use Rattle.master.specs.Master.{SameHost, hosted_pulls, hosted_is_armed, hosted_new, hosted_arm, hosted_step, hosted_mark, hosted_master};
+    ghost use Rattle.master.specs.Master.{SameHost, hosted_pulls, hosted_is_armed, reset_hosted_master, hosted_arm, hosted_step, hosted_mark, hosted_master};
 
     /// Which lines it pulls low in the tick to come.
     pub fn pulls(&self) -> Pulls
@@ -78,7 +78,7 @@ impl<H: Host> Master<H> {
     pub fn reset(&mut self)
         ensures same { SameHost self.old self.new }
         ensures after { hosted_master H.Host self.new ≡
-            hosted_new _ (hosted_master H.Host self.old) }
+            reset_hosted_master _ (hosted_master H.Host self.old) }
     {
         self.state = MasterState::new(self.state.clock);
     }

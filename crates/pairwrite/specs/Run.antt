@@ -9,13 +9,13 @@ use Rattle.pairwrite.specs.Input.{Reads, FailsToRead}
 use Rattle.pairwrite.specs.Setup.{Wants, pair_hosts, pair_devices, pair_of}
 
 -- a turn for each of the two masters
-abbrev pub most_ticks : ℕ
-most_ticks = 2 * most_ticks_of_turn
+abbrev pub ticks_of_run : ℕ
+ticks_of_run = 2 * most_ticks_of_turn
 
 -- the lines of the run of the bus of these hosts, until it is at rest, or for two turns at most
 abbrev pub run_lines : ListHostModel → ListHostModel → List ℕ
 run_lines m n =
-    unheld_lines pair_hosts pair_devices 2 most_ticks
+    unheld_lines pair_hosts pair_devices 2 ticks_of_run
     (listened_start pair_hosts pair_devices 2 (pair_of m n))
 
 -- fewer than two bytes print nothing; of two, the first is what master 0 writes, and the second what master 1 writes

@@ -8,15 +8,15 @@ use Rattle.host.specs.Host.{HostBehaviour}
 use Rattle.host.specs.ListHost.{ListHostModel, list_host}
 use Rattle.master.specs.Master.{new_hosted_master}
 use Rattle.port.specs.Port.{new_port}
-use Rattle.law.specs.Bus.{BusModel, new_bus}
-use Rattle.support.specs.Filled.{new_list}
-use Rattle.support.specs.Transfer.{registers_address, register_write}
+use Rattle.law.specs.BusModel.{BusModel, new_bus}
+use Rattle.host.specs.ListHost.{new_list_host}
+use Rattle.support.specs.Sent.{registers_address, register_write}
 
 -- one transfer, a write of the byte to a register
 abbrev pub Wants : ℕ → ListHostModel → Type 0
 Wants byte m =
     (t : Transfer) × (transfer_model t ≡ register_write registers_address byte) ×
-    (m ≡ new_list (t ∷ []))
+    (m ≡ new_list_host (t ∷ []))
 
 abbrev pub pair_hosts : List HostBehaviour
 pair_hosts = list_host ∷ list_host ∷ []

@@ -25,7 +25,8 @@ fn two_bytes<I: Input>(input: &mut I) -> io::Result<Option<[u8; 2]>>
     Ok(Some([first, second]))
 }
 
-/// Each of the two masters has one turn. Further bytes are not looked at.
+/// Reads two bytes, lets each of two masters write one of them to the same register, and prints the listing until both
+/// have been told. Fewer bytes print nothing; further ones are not looked at.
 pub fn run<I: Input, O: Output>(input: &mut I, out: &mut O) -> io::Result<()>
     ensures { PrintsInput I.Input.gives I.Input.fails O.Output.takes O.Output.fails
         input.old input.new out.old result out.new }

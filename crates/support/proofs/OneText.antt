@@ -6,13 +6,13 @@ use Rattle.std.specs.declared.io.Error.{Error}
 use Rattle.device.specs.Device.{Behaviour}
 use Rattle.host.specs.Host.{HostBehaviour}
 use Rattle.law.specs.Bank.{Bank}
-use Rattle.law.specs.Bus.{BusModel, HoldAnswers, AllMayAnswer, Answered, ports_step, tick_at, levels_at, is_at_rest}
+use Rattle.law.specs.BusModel.{BusModel, HoldAnswers, AllMayAnswer, Answered, ports_step, tick_at, levels_at, is_at_rest}
 use Rattle.listing.specs.Listing.{listing_step}
 use Rattle.support.specs.ArmAll.{all_armed}
 use Rattle.port.specs.declared.port.Mode.{Mode}
 use Rattle.port.specs.Port.{asks_hold_at_event, asks_hold_at_bit, MayAnswer, PortModel, port_step, port_after_event, port_after_bit}
 use Rattle.support.specs.Output.{PutsPart}
-use Rattle.support.specs.PrintedRun.{OneHold, Listened, next_lines, listened_after_tick, Runs, RunsTo, OnlyRun, PrintsAll, PrintsPart}
+use Rattle.support.specs.PrintedRun.{OneHold, Listened, next_lines, listened_after_tick, TicksLeadTo, IsRun, IsOnlyRun, PrintsAll, PrintsPart}
 use Rattle.wire.specs.declared.event.Event.{Event}
 use Rattle.wire.specs.declared.wire.Signal.{Signal}
 use Rattle.wire.specs.Wire.{signal}
@@ -59,8 +59,8 @@ module _ (hs : List HostBehaviour) (ds : List Behaviour) (one : OneHold ds) wher
         ap (λ t. record { bus = all_armed hs ds masters t.1; listing = (listing_step r.listing t.0).1 }) (tick_alike r.bus a c first second)
 
     -- so many ticks have one text and one end; the lines of a tick do not depend on its answers
-    ran_alike : (n : ℕ) (u : BusModel hs ds) (text other : List ℕ) (s t : Listened hs ds) → Runs hs ds masters n u text s →
-        Runs hs ds masters n u other t →
+    ran_alike : (n : ℕ) (u : BusModel hs ds) (text other : List ℕ) (s t : Listened hs ds) → TicksLeadTo hs ds masters n u text s →
+        TicksLeadTo hs ds masters n u other t →
         (text ≡ other) × (s ≡ t)
     ran_alike zero u text other s t ran again = (ran.0 ∙ sym again.0, ran.1 ∙ sym again.1)
     ran_alike (suc n) u text other s t (r, before, h, ran, awake, answered, grows, is) (q, earlier, k, again, up, allowed, gets, comes) =
@@ -76,22 +76,22 @@ module _ (hs : List HostBehaviour) (ds : List Behaviour) (one : OneHold ds) wher
       before : List ℕ
       rest : List ℕ
       end : Listened hs ds
-      ran : Runs hs ds masters n u before end
+      ran : TicksLeadTo hs ds masters n u before end
       whole : before ++ rest ≡ text
       awake : n < m → is_at_rest hs ds end.bus ≡ false
 
-    all_ticks : (n m : ℕ) (u : BusModel hs ds) (text : List ℕ) (s : Listened hs ds) → n ≡ m → Runs hs ds masters m u text s →
+    all_ticks : (n m : ℕ) (u : BusModel hs ds) (text : List ℕ) (s : Listened hs ds) → n ≡ m → TicksLeadTo hs ds masters m u text s →
         First n m u text
     all_ticks n m u text s e ran = record {
       before = text;
       rest = [];
       end = s;
-      ran = subst (λ k. Runs hs ds masters k u text s) (sym e) ran;
+      ran = subst (λ k. TicksLeadTo hs ds masters k u text s) (sym e) ran;
       whole = append-nil text;
       awake = λ less. absurd (omega (arith, less));
     }
 
-    first_ticks : (n m : ℕ) (u : BusModel hs ds) (text : List ℕ) (s : Listened hs ds) → n ≤ m → Runs hs ds masters m u text s →
+    first_ticks : (n m : ℕ) (u : BusModel hs ds) (text : List ℕ) (s : Listened hs ds) → n ≤ m → TicksLeadTo hs ds masters m u text s →
         First n m u text
     first_ticks n zero u text s few ran = all_ticks n zero u text s (omega arith) ran
     first_ticks n (suc m) u text s few (r, before, h, ran, awake, answered, grows, is) =
@@ -111,7 +111,7 @@ module _ (hs : List HostBehaviour) (ds : List Behaviour) (one : OneHold ds) wher
           before = before;
           rest = next_lines hs ds r h;
           end = r;
-          ran = subst (λ k. Runs hs ds masters k u before r) (sym here) ran;
+          ran = subst (λ k. TicksLeadTo hs ds masters k u before r) (sym here) ran;
           whole = sym grows;
           awake = λ fewer. awake;
         })
@@ -120,8 +120,8 @@ module _ (hs : List HostBehaviour) (ds : List Behaviour) (one : OneHold ds) wher
         (cases_lt n m)
 
     -- a run that is over after n ticks is followed by no tick
-    one_length : (most n m : ℕ) (u : BusModel hs ds) (text other : List ℕ) (s t : Listened hs ds) → Runs hs ds masters n u text s →
-        (n ≡ most) ⊎ (is_at_rest hs ds s.bus ≡ true) → Runs hs ds masters m u other t → m ≤ most → m ≤ n
+    one_length : (most n m : ℕ) (u : BusModel hs ds) (text other : List ℕ) (s t : Listened hs ds) → TicksLeadTo hs ds masters n u text s →
+        (n ≡ most) ⊎ (is_at_rest hs ds s.bus ≡ true) → TicksLeadTo hs ds masters m u other t → m ≤ most → m ≤ n
     one_length most n m u text other s t ran over again few =
         ⊎_elim
         (λ less.
@@ -137,20 +137,20 @@ module _ (hs : List HostBehaviour) (ds : List Behaviour) (one : OneHold ds) wher
         (λ enough. enough)
         (cases_lt n m)
 
-    pub only_run : (most : ℕ) (u : BusModel hs ds) (text : List ℕ) (s : Listened hs ds) → RunsTo hs ds masters most u text s →
-        OnlyRun hs ds masters most u text s
+    pub only_run : (most : ℕ) (u : BusModel hs ds) (text : List ℕ) (s : Listened hs ds) → IsRun hs ds masters most u text s →
+        IsOnlyRun hs ds masters most u text s
     only_run most u text s run = record {
       run = run;
       only = λ other t again.
           let longer : again.ticks ≤ run.ticks = one_length most _ _ u text other s t run.ran run.over again.ran again.bounded in
           let shorter : run.ticks ≤ again.ticks = one_length most _ _ u other text t s again.ran again.over run.ran run.bounded in
           let same : again.ticks ≡ run.ticks = omega arith in
-          ran_alike run.ticks u other text t s (subst (λ n. Runs hs ds masters n u other t) same again.ran) run.ran;
+          ran_alike run.ticks u other text t s (subst (λ n. TicksLeadTo hs ds masters n u other t) same again.ran) run.ran;
     }
 
     module _ {W : Type 0} (takes : W → List ℕ → W → Type 0) (fails : W → List ℕ → Error → W → Type 0) (most : ℕ)
         (u v : BusModel hs ds) (out after : W)
-        (text : List ℕ) (s : Listened hs ds) (run : RunsTo hs ds masters most u text s) where
+        (text : List ℕ) (s : Listened hs ds) (run : IsRun hs ds masters most u text s) where
       pub puts_only : PrintsAll hs ds takes masters most u v out after → WritesInCalls takes out text after
       puts_only p = subst (λ x. WritesInCalls takes out x after) ((only_run most u text s run).only p.text p.end p.run).0 p.written
 
@@ -158,7 +158,7 @@ module _ (hs : List HostBehaviour) (ds : List Behaviour) (one : OneHold ds) wher
       puts_front e p =
           let failing = next_lines hs ds p.end p.holds in
           let there = listened_after_tick hs ds masters p.end p.holds in
-          let more : Runs hs ds masters (suc p.ticks) u (p.text ++ failing) there =
+          let more : TicksLeadTo hs ds masters (suc p.ticks) u (p.text ++ failing) there =
           (p.end, p.text, p.holds, p.ran, p.awake, p.answered, refl, refl) in
           let few : suc p.ticks ≤ run.ticks = one_length most _ _ u text (p.text ++ failing) s there run.ran run.over more
           (omega (arith, p.bounded)) in

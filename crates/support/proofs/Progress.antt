@@ -3,13 +3,13 @@ use Rattle.std.proofs.Common.{◌≡◌, ℕ, ◌+◌, ◌++◌, false, List, de
 use Rattle.device.specs.Device.{Behaviour}
 use Rattle.host.specs.Host.{HostBehaviour}
 use Rattle.law.specs.declared.tick.Tick.{Tick}
-use Rattle.law.specs.Bus.{BusModel, HoldAnswers, Answered, tick_at, is_at_rest}
+use Rattle.law.specs.BusModel.{BusModel, HoldAnswers, Answered, tick_at, is_at_rest}
 use Rattle.listing.specs.declared.listing.Listing.{Listing}
 use Rattle.listing.specs.declared.marks.Marks.{Marks}
 use Rattle.listing.specs.Marks.{lines_of}
 use Rattle.listing.specs.Listing.{listing_step}
 use Rattle.support.specs.ArmAll.{all_armed}
-use Rattle.support.specs.PrintedRun.{Listened, next_lines, listened_after_tick, Runs}
+use Rattle.support.specs.PrintedRun.{Listened, next_lines, listened_after_tick, TicksLeadTo}
 
 module _ (hs : List HostBehaviour) (ds : List Behaviour) (masters : ℕ) (r : Listened hs ds) (h : HoldAnswers ds)
     (t : Tick) (x v : BusModel hs ds) (m : Marks) (l : Listing)
@@ -26,8 +26,8 @@ module _ (hs : List HostBehaviour) (ds : List Behaviour) (masters : ℕ) (r : Li
       let listing_is : l ≡ (listing_step r.listing (tick_at hs ds r.bus h).0).1 = ap (λ a. a.1) step_is in
       cc
 
-  pub one_more : (n : ℕ) (u : BusModel hs ds) (before text : List ℕ) → Runs hs ds masters n u before r →
+  pub one_more : (n : ℕ) (u : BusModel hs ds) (before text : List ℕ) → TicksLeadTo hs ds masters n u before r →
       is_at_rest hs ds r.bus ≡ false → Answered hs ds r.bus h →
-      text ≡ lines_of (decimal m.tick) m → Runs hs ds masters (n + 1) u (before ++ text) (record { bus = v; listing = l })
+      text ≡ lines_of (decimal m.tick) m → TicksLeadTo hs ds masters (n + 1) u (before ++ text) (record { bus = v; listing = l })
   one_more n u before text ran awake answered lines = rw add-one
       (r, before, h, ran, awake, answered, ap (λ a. before ++ a) (lines_are text lines), ticked_is)

@@ -3,20 +3,20 @@ use Rattle.std.proofs.Common.{◌≡◌, ℕ, zero, suc, ◌+◌, ◌++◌, List
 use Rattle.std.proofs.lemmas.Bool.{cases_Bool}
 use Rattle.device.specs.Device.{Behaviour}
 use Rattle.host.specs.Host.{HostBehaviour}
-use Rattle.law.specs.Bus.{BusModel, HoldAnswers, Answered, tick_at, is_at_rest}
+use Rattle.law.specs.BusModel.{BusModel, HoldAnswers, Answered, tick_at, is_at_rest}
 use Rattle.support.specs.ArmAll.{all_armed}
-use Rattle.support.specs.PrintedRun.{Listened, listened_start, next_lines, listened_after_tick, Runs, RunsTo}
+use Rattle.support.specs.PrintedRun.{Listened, listened_start, next_lines, listened_after_tick, TicksLeadTo, IsRun}
 
 module _ (hs : List HostBehaviour) (ds : List Behaviour) (masters : ℕ) (Fit : BusModel hs ds → Type 0)
     (some_answers : (v : BusModel hs ds) → Fit v → (h : HoldAnswers ds) × Answered hs ds v h)
     (stays_fit : (v : BusModel hs ds) (h : HoldAnswers ds) → Fit v → Fit (all_armed hs ds masters (tick_at hs ds v h).1)) where
   -- there is a run
   abbrev pub ItRuns : ℕ → BusModel hs ds → Type 0
-  ItRuns most u = (text : List ℕ) × (end : Listened hs ds) × RunsTo hs ds masters most u text end
+  ItRuns most u = (text : List ℕ) × (end : Listened hs ds) × IsRun hs ds masters most u text end
 
   -- n ticks, and k more at most
   goes_on : (n k most : ℕ) (u : BusModel hs ds) (text : List ℕ) (s : Listened hs ds) → n + k ≡ most → Fit s.bus →
-      Runs hs ds masters n u text s →
+      TicksLeadTo hs ds masters n u text s →
       ItRuns most u
   goes_on n zero most u text s e fit ran = (text, s, record { ticks = n; bounded = omega arith; ran = ran; over = inl (omega arith) })
   goes_on n (suc k) most u text s e fit ran =

@@ -5,11 +5,11 @@ use Rattle.std.specs.declared.io.Error.{Error}
 use Rattle.device.specs.Device.{Behaviour}
 use Rattle.host.specs.Host.{HostBehaviour}
 use Rattle.law.proofs.WithoutHolds.{tick_unheld}
-use Rattle.law.specs.Bus.{BusModel, HoldAnswers, NeverHold, Answered, no_holds, is_at_rest}
+use Rattle.law.specs.BusModel.{BusModel, HoldAnswers, NeverHold, Answered, no_holds, is_at_rest}
 use Rattle.listing.specs.Listing.{listing_step}
 use Rattle.support.specs.ArmAll.{all_armed}
 use Rattle.support.specs.Output.{PutsPart}
-use Rattle.support.specs.PrintedRun.{Listened, listened_start, next_lines, listened_after_tick, Runs, unheld_lines, PrintsAll, PrintsPart}
+use Rattle.support.specs.PrintedRun.{Listened, listened_start, next_lines, listened_after_tick, TicksLeadTo, unheld_lines, PrintsAll, PrintsPart}
 
 module _ (hs : List HostBehaviour) (ds : List Behaviour) (never : NeverHold ds) (masters : ℕ) where
   ticked_unheld : (r : Listened hs ds) (h : HoldAnswers ds) → Answered hs ds r.bus h →
@@ -30,7 +30,7 @@ module _ (hs : List HostBehaviour) (ds : List Behaviour) (never : NeverHold ds) 
   awake n s on = rw on refl
 
   -- the lines so far, and those of k more ticks at most
-  all : (n k m : ℕ) (u : BusModel hs ds) (text : List ℕ) (s : Listened hs ds) → n + k ≡ m → Runs hs ds masters n u text s →
+  all : (n k m : ℕ) (u : BusModel hs ds) (text : List ℕ) (s : Listened hs ds) → n + k ≡ m → TicksLeadTo hs ds masters n u text s →
       text ++ unheld_lines hs ds masters k s ≡ unheld_lines hs ds masters m (listened_start hs ds masters u)
   all zero k m u text s e (none, same) = let here : k ≡ m = omega arith in rw (none, same, here) refl
   all (suc n) k m u text s e (r, before, h, ran, on, answered, grows, same) =
@@ -41,11 +41,11 @@ module _ (hs : List HostBehaviour) (ds : List Behaviour) (never : NeverHold ds) 
   unfolding unheld_lines
   none_left s = refl
 
-  over_here : (n k m : ℕ) (u : BusModel hs ds) (text : List ℕ) (s : Listened hs ds) → n + k ≡ m → Runs hs ds masters n u text s →
+  over_here : (n k m : ℕ) (u : BusModel hs ds) (text : List ℕ) (s : Listened hs ds) → n + k ≡ m → TicksLeadTo hs ds masters n u text s →
       unheld_lines hs ds masters k s ≡ [] → text ≡ unheld_lines hs ds masters m (listened_start hs ds masters u)
   over_here n k m u text s e ran none = sym (append-nil text) ∙ ap (λ x. text ++ x) (sym none) ∙ all n k m u text s e ran
 
-  pub run_unheld : (n most : ℕ) (u : BusModel hs ds) (text : List ℕ) (s : Listened hs ds) → n ≤ most → Runs hs ds masters n u text s →
+  pub run_unheld : (n most : ℕ) (u : BusModel hs ds) (text : List ℕ) (s : Listened hs ds) → n ≤ most → TicksLeadTo hs ds masters n u text s →
       (n ≡ most) ⊎ (is_at_rest hs ds s.bus ≡ true) → text ≡ unheld_lines hs ds masters most (listened_start hs ds masters u)
   run_unheld n most u text s bounded ran over =
       ⊎_elim

@@ -1,4 +1,4 @@
-pub mod Transfer
+pub mod Sent
 pub mod Filled
 pub mod PairBus
 pub mod ArmAll

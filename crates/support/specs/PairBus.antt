@@ -4,7 +4,7 @@ use Rattle.device.specs.RegisterFile.{register_file, new_registers}
 use Rattle.host.specs.Host.{HostBehaviour}
 use Rattle.master.specs.Master.{new_hosted_master}
 use Rattle.port.specs.Port.{new_port}
-use Rattle.law.specs.Bus.{BusModel, new_bus}
+use Rattle.law.specs.BusModel.{BusModel, new_bus}
 use Rattle.support.specs.declared.pair.Clocks.{Clocks}
 
 abbrev pub new_pair_bus : (h : HostBehaviour) → ℕ → Clocks → h.Meaning → h.Meaning →

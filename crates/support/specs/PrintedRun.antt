@@ -4,7 +4,7 @@ use Rattle.std.specs.Fmt.{WritesInCalls}
 use Rattle.std.specs.declared.io.Error.{Error}
 use Rattle.device.specs.Device.{Behaviour}
 use Rattle.host.specs.Host.{HostBehaviour}
-use Rattle.law.specs.Bus.{BusModel, HoldAnswers, Answered, no_holds, tick_at, is_at_rest}
+use Rattle.law.specs.BusModel.{BusModel, HoldAnswers, Answered, no_holds, tick_at, is_at_rest}
 use Rattle.listing.specs.declared.listing.Listing.{Listing}
 use Rattle.listing.specs.Marks.{lines_of}
 use Rattle.listing.specs.Listing.{new_listing, listing_step}
@@ -37,10 +37,10 @@ module _ (hs : List HostBehaviour) (ds : List Behaviour) where
 
   -- n ticks lead from the bus u to s, and these are their lines, for some answers to hold that the devices may give; no tick
   -- is made at rest
-  abbrev pub Runs : ℕ → ℕ → BusModel hs ds → List ℕ → Listened → Type 0
-  Runs masters zero u text s = (text ≡ []) × (s ≡ listened_start masters u)
-  Runs masters (suc n) u text s =
-      (r : Listened) × (before : List ℕ) × (h : HoldAnswers ds) × Runs masters n u before r ×
+  abbrev pub TicksLeadTo : ℕ → ℕ → BusModel hs ds → List ℕ → Listened → Type 0
+  TicksLeadTo masters zero u text s = (text ≡ []) × (s ≡ listened_start masters u)
+  TicksLeadTo masters (suc n) u text s =
+      (r : Listened) × (before : List ℕ) × (h : HoldAnswers ds) × TicksLeadTo masters n u before r ×
       (is_at_rest hs ds r.bus ≡ false) × Answered hs ds r.bus h ×
       (text ≡ before ++ next_lines r h) × (s ≡ listened_after_tick masters r h)
 
@@ -53,18 +53,18 @@ module _ (hs : List HostBehaviour) (ds : List Behaviour) where
       else next_lines s h ++ unheld_lines masters n (listened_after_tick masters s h)
 
   -- a run with this text: it ends at rest, or after the most ticks
-  pub record RunsTo (masters most : ℕ) (u : BusModel hs ds) (text : List ℕ) (end : Listened) :
+  pub record IsRun (masters most : ℕ) (u : BusModel hs ds) (text : List ℕ) (end : Listened) :
       Type 0 where
     pub ticks : ℕ
     pub bounded : ticks ≤ most
-    pub ran : Runs masters ticks u text end
+    pub ran : TicksLeadTo masters ticks u text end
     pub over : (ticks ≡ most) ⊎ (is_at_rest hs ds end.bus ≡ true)
 
   -- the one run from u: whatever the devices answer, there is no other
-  pub record OnlyRun (masters most : ℕ) (u : BusModel hs ds) (text : List ℕ) (end : Listened) :
+  pub record IsOnlyRun (masters most : ℕ) (u : BusModel hs ds) (text : List ℕ) (end : Listened) :
       Type 0 where
-    pub run : RunsTo masters most u text end
-    pub only : (other : List ℕ) (last : Listened) → RunsTo masters most u other last →
+    pub run : IsRun masters most u text end
+    pub only : (other : List ℕ) (last : Listened) → IsRun masters most u other last →
         (other ≡ text) × (last ≡ end)
 
   module _ {W : Type 0} (takes : W → List ℕ → W → Type 0) where
@@ -72,7 +72,7 @@ module _ (hs : List HostBehaviour) (ds : List Behaviour) where
     pub record PrintsAll (masters most : ℕ) (u v : BusModel hs ds) (out after : W) : Type 0 where
       pub text : List ℕ
       pub end : Listened
-      pub run : RunsTo masters most u text end
+      pub run : IsRun masters most u text end
       pub written : WritesInCalls takes out text after
       pub bus : v ≡ end.bus
 
@@ -85,7 +85,7 @@ module _ (hs : List HostBehaviour) (ds : List Behaviour) where
       pub holds : HoldAnswers ds
       pub between : W
       pub bounded : ticks < most
-      pub ran : Runs masters ticks u text end
+      pub ran : TicksLeadTo masters ticks u text end
       pub awake : is_at_rest hs ds end.bus ≡ false
       pub answered : Answered hs ds end.bus holds
       pub written : WritesInCalls takes out text between

@@ -1,4 +1,4 @@
-// A list host and an event queue, filled as they are made. A trait over both would have more lines than these two bodies.
+// A list host and an event queue, filled as they are made.
 ghost use Rattle.std.specs.Prelude.{◌≡◌};
 ghost use Rattle.transfer.specs.Refusal.{answer};
 ghost use Rattle.device.specs.EventQueue.{queue_model};

@@ -10,7 +10,7 @@ use master::Master;
 use port::Port;
 use transfer::{Address, ClockPair};
 
-/// Two masters with hosts of one make, and a register file.
+/// Two masters with hosts of one type, and a register file.
 pub type PairBus<H> = Bus<(Master<H>, (Master<H>, End)), (Port<RegisterFile>, End)>;
 
 /// The clock pairs of the two masters, in ticks.

@@ -1,9 +1,9 @@
 // A run that is printed tick by tick.
 ghost use Rattle.std.specs.Prelude.{ℕ, ◌<◌, ◌^◌, List, decimal, OnOk, IfErr};
 ghost use Rattle.exchange.specs.Bus.{bus_model};
-ghost use Rattle.law.specs.Bus.{NeverHold};
+ghost use Rattle.law.specs.BusModel.{NeverHold};
 ghost use Rattle.support.specs.Output.{Puts};
-ghost use Rattle.support.specs.PrintedRun.{OneHold, Listened, RunsTo, PrintsAll, PrintsPart, listened_start, unheld_lines};
+ghost use Rattle.support.specs.PrintedRun.{OneHold, Listened, IsRun, PrintsAll, PrintsPart, listened_start, unheld_lines};
 ghost use Rattle.text.specs.Decimal.{IsDecimal};
 
 use crate::arming::arm_all;
@@ -34,7 +34,7 @@ pub fn print_run<M: Masters, P: Ports, O: Output>(
         out.old result out.new }
     ensures only { OneHold P.Ports.devices →
         (text : List ℕ) (end : Listened _ _) →
-        RunsTo _ _ masters most_ticks (bus_model bus.old) text end →
+        IsRun _ _ masters most_ticks (bus_model bus.old) text end →
         Puts O.Output.takes O.Output.fails text out.old result out.new }
 
     ensures numbers { (n : ℕ) → n < 2 ^ 64 → IsDecimal n (decimal n) }

@@ -5,6 +5,6 @@ use Rattle.transfer.specs.Limits.{most_items}
 use Rattle.transfer.specs.Refusal.{number}
 
 -- the answer to a fill, and what is then left: a new list in the place of the old
-abbrev pub fifo_after_fill : {T : Type 0} → List T → List T → Result (Unit {0}) ℕ × List T
-fifo_after_fill ts old =
+abbrev pub fifo_answer_to_fill : {T : Type 0} → List T → List T → Result (Unit {0}) ℕ × List T
+fifo_answer_to_fill ts old =
     if nat_le (length ts) most_items then (Ok tt, ts) else (Err (number LengthOutOfRange), old)

@@ -32,20 +32,20 @@ abbrev pub write_then_read : ℕ → List ℕ → ℕ → TransferModel
 write_then_read a xs n = record { first = write_leg a xs; second = Some (read_leg a n) }
 
 -- the same, put together in one call, with which lengths are refused
-abbrev pub one_write : ℕ → List ℕ → Result TransferModel ℕ
-one_write a xs =
+abbrev pub checked_write : ℕ → List ℕ → Result TransferModel ℕ
+checked_write a xs =
     if is_write_length (length xs)
     then Ok (write_to a xs)
     else Err (number LengthOutOfRange)
 
-abbrev pub one_read : ℕ → ℕ → Result TransferModel ℕ
-one_read a n =
+abbrev pub checked_read : ℕ → ℕ → Result TransferModel ℕ
+checked_read a n =
     if is_read_length n
     then Ok (read_from a n)
     else Err (number LengthOutOfRange)
 
-abbrev pub write_and_read : ℕ → List ℕ → ℕ → Result TransferModel ℕ
-write_and_read a xs n =
+abbrev pub checked_write_then_read : ℕ → List ℕ → ℕ → Result TransferModel ℕ
+checked_write_then_read a xs n =
     if is_write_length (length xs) && is_read_length n
     then Ok (write_then_read a xs n)
     else Err (number LengthOutOfRange)
@@ -60,20 +60,20 @@ with_last_body b g None = record { first = record g { body = b }; second = None 
 with_last_body b g (Some h) = record { first = g; second = Some (record h { body = b }) }
 
 -- the answer to each call of a draft, and the draft after it
-abbrev pub after_write : List ℕ → TransferModel → Result (Unit {0}) ℕ × TransferModel
-after_write xs d =
+abbrev pub answer_to_write : List ℕ → TransferModel → Result (Unit {0}) ℕ × TransferModel
+answer_to_write xs d =
     if is_write_length (length xs)
     then (Ok tt, with_last_body (writes xs) d.first d.second)
     else (Err (number LengthOutOfRange), d)
 
-abbrev pub after_read : ℕ → TransferModel → Result (Unit {0}) ℕ × TransferModel
-after_read n d =
+abbrev pub answer_to_read : ℕ → TransferModel → Result (Unit {0}) ℕ × TransferModel
+answer_to_read n d =
     if is_read_length n
     then (Ok tt, with_last_body (reads n) d.first d.second)
     else (Err (number LengthOutOfRange), d)
 
-abbrev pub after_second_leg : ℕ → TransferModel → Result (Unit {0}) ℕ × TransferModel
-after_second_leg a d =
+abbrev pub answer_to_second_leg : ℕ → TransferModel → Result (Unit {0}) ℕ × TransferModel
+answer_to_second_leg a d =
     if is_some d.second
     then (Err (number TwoLegsAlready), d)
     else (Ok tt, record d { second = Some (empty_write a) })

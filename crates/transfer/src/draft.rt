@@ -18,11 +18,11 @@ impl Transfer {
     ghost use Rattle.std.specs.Prelude.{◌≡◌};
     ghost use Rattle.transfer.specs.Limits.{least_address};
     ghost use Rattle.transfer.specs.Refusal.{answer};
-    ghost use Rattle.transfer.specs.Transfer.{transfer_model, new_draft, one_write, one_read, write_and_read};
+    ghost use Rattle.transfer.specs.Transfer.{transfer_model, new_draft, checked_write, checked_read, checked_write_then_read};
 
     /// One leg: a write of 0 to [`MOST_BYTES`] bytes.
     pub fn write(address: Address, bytes: &[u8]) -> Result<Transfer, Refusal>
-        ensures { answer transfer_model result ≡ one_write address.number bytes.now }
+        ensures { answer transfer_model result ≡ checked_write address.number bytes.now }
     {
         let mut draft = Draft::new(address);
         draft.write(bytes)?;
@@ -31,7 +31,7 @@ impl Transfer {
 
     /// One leg: a read of `count` bytes, 1 to [`MOST_BYTES`].
     pub fn read(address: Address, count: u32) -> Result<Transfer, Refusal>
-        ensures { answer transfer_model result ≡ one_read address.number count }
+        ensures { answer transfer_model result ≡ checked_read address.number count }
     {
         let mut draft = Draft::new(address);
         draft.read(count)?;
@@ -45,7 +45,7 @@ impl Transfer {
         written: &[u8],
         wanted: u32,
     ) -> Result<Transfer, Refusal>
-        ensures { answer transfer_model result ≡ write_and_read address.number written.now wanted }
+        ensures { answer transfer_model result ≡ checked_write_then_read address.number written.now wanted }
     {
         let mut draft = Draft::new(address);
         draft.write(written)?;
@@ -127,7 +127,7 @@ impl Draft {
     ghost use Rattle.transfer.specs.Leg.{body_model};
     ghost use Rattle.transfer.specs.Refusal.{answer};
     ghost use Rattle.transfer.specs.Transfer.{transfer_model, new_draft, with_last_body};
-    ghost use Rattle.transfer.specs.Transfer.{after_write, after_read, after_second_leg};
+    ghost use Rattle.transfer.specs.Transfer.{answer_to_write, answer_to_read, answer_to_second_leg};
 
     /// One leg, an empty write to the address.
     pub fn new(address: Address) -> Draft
@@ -153,7 +153,7 @@ impl Draft {
 
     /// The last leg becomes a write of these bytes, 0 to [`MOST_BYTES`] of them.
     pub fn write(&mut self, bytes: &[u8]) -> Result<(), Refusal>
-        ensures { (answer (λ u. u) result, self.new) ≡ after_write bytes.now self.old }
+        ensures { (answer (λ u. u) result, self.new) ≡ answer_to_write bytes.now self.old }
     {
         if bytes.len() > MOST_BYTES {
             return Err(Refusal::LengthOutOfRange);
@@ -164,7 +164,7 @@ impl Draft {
 
     /// The last leg becomes a read of `count` bytes, 1 to [`MOST_BYTES`].
     pub fn read(&mut self, count: u32) -> Result<(), Refusal>
-        ensures { (answer (λ u. u) result, self.new) ≡ after_read count self.old }
+        ensures { (answer (λ u. u) result, self.new) ≡ answer_to_read count self.old }
     {
         if !(1..=MOST_BYTES as u32).contains(&count) {
             return Err(Refusal::LengthOutOfRange);
@@ -175,7 +175,7 @@ impl Draft {
 
     /// A second leg, an empty write to the address; it is then the last.
     pub fn second_leg(&mut self, address: Address) -> Result<(), Refusal>
-        ensures { (answer (λ u. u) result, self.new) ≡ after_second_leg address.number self.old }
+        ensures { (answer (λ u. u) result, self.new) ≡ answer_to_second_leg address.number self.old }
     {
         if self.transfer.second.is_some() {
             return Err(Refusal::TwoLegsAlready);

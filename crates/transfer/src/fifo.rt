@@ -30,7 +30,7 @@ impl<T> Model for Fifo<T> {
 
 impl<T: Copy> Fifo<T> {
     ghost use Rattle.std.specs.Prelude.{◌≡◌, [], slice_get};
-    ghost use Rattle.transfer.specs.Fifo.{fifo_after_fill};
+    ghost use Rattle.transfer.specs.Fifo.{fifo_answer_to_fill};
     ghost use Rattle.transfer.specs.Refusal.{answer};
 
     /// An empty list; `filler` only takes up its room.
@@ -47,7 +47,7 @@ impl<T: Copy> Fifo<T> {
     /// Starts a new list, in the place of what is left of the old. One that is too long is refused,
     /// and changes nothing.
     pub fn fill(&mut self, items: &[T]) -> Result<(), Refusal>
-        ensures { (answer (λ u. u) result, self.new) ≡ fifo_after_fill items.now self.old }
+        ensures { (answer (λ u. u) result, self.new) ≡ fifo_answer_to_fill items.now self.old }
     {
         if items.len() > MOST_ITEMS {
             return Err(Refusal::LengthOutOfRange);

@@ -20,7 +20,7 @@ pub struct BytePlace {
 /// not acknowledged (I2C specification 2.1, section 7.2).
 #[derive(Clone, Copy, PartialEq, Eq, Debug)]
 pub enum OutcomeKind {
-    /// Every byte went out, and each was acknowledged.
+    /// Every address and every byte written was acknowledged, and every byte asked for was read.
     Done,
     /// No port acknowledged the address of this leg.
     NoAnswer(LegPlace),
@@ -28,8 +28,8 @@ pub enum OutcomeKind {
     Refused(BytePlace),
 }
 
-/// The bytes read are those of the first leg, then those of the second. Only a done outcome has
-/// any.
+/// The bytes read are those of the first leg, then those of the second. A master reports bytes only
+/// with a done outcome.
 #[derive(Clone, Copy, Debug)]
 pub struct Outcome {
     pub kind: OutcomeKind,

@@ -9,13 +9,14 @@ use Rattle.transfer.specs.declared.leg.Direction.TheVariants.{Write, Read}
 use Rattle.transfer.specs.declared.outcome.OutcomeKind.TheVariants.{Done, NoAnswer, Refused}
 use Rattle.device.specs.Device.{Behaviour}
 use Rattle.law.specs.Bank.{Bank, bank_map, BankAll}
-use Rattle.law.specs.TransferResult.{AddressedDevice, DeviceInLeg, device_after_call, device_put}
+use Rattle.law.specs.TransferResult.{AddressedDevice, DeviceInLeg, device_after_call, device_after_put}
 use Rattle.law.specs.TransferResult.{device_after_take, byte_given_by, byte_levels, LegResult, leg_end}
 use Rattle.law.specs.TransferResult.{with_byte, any_in, write_result, read_result, leg_result}
 use Rattle.wire.specs.ByteProgress.{bit_at}
 use Rattle.transfer.specs.Address.{answers_to}
 use Rattle.law.specs.Facts.{Exists, devices_after_puts, devices_after_takes}
-use Rattle.law.specs.Facts.{byte_of_devices, write_leg, read_leg, Accepts, Only, ByteLaws}
+use Rattle.law.specs.Facts.{byte_of_devices, Accepts, Only, ByteLaws}
+use Rattle.transfer.specs.Leg.{write_leg, read_leg}
 use Rattle.law.proofs.Alone.StepsOfBanks.{Each, Asks, any}
 use Rattle.law.proofs.Alone.BitsOfByte.{ones, digit_and}
 use Rattle.law.proofs.Alone.PortsWithinByte.{called_for, put_to_all}
@@ -46,7 +47,7 @@ called_select : (a : ℕ) (r : Direction) (b : Behaviour) (d : AddressedDevice b
     answers_to d.address a ≡ t → Called a b (device_after_call b a r d)
 called_select a r b d t h = grind arith
 
-called_put : (a x : ℕ) (b : Behaviour) (p : DeviceInLeg b) → Called a b p → Called a b (device_put b x p)
+called_put : (a x : ℕ) (b : Behaviour) (p : DeviceInLeg b) → Called a b p → Called a b (device_after_put b x p)
 called_put a x b p h = grind arith
 
 all_called : (a : ℕ) (r : Direction) (ds : List Behaviour) (d : Bank AddressedDevice ds) →
@@ -58,11 +59,11 @@ having_called : (a : ℕ) (ds : List Behaviour) (xs : List ℕ) (e : Bank Device
     BankAll (Called a) ds e → BankAll (Called a) ds (devices_after_puts ds xs e)
 having_called a ds [] e h = h
 having_called a ds (x ∷ xs) e h = having_called a ds xs (put_to_all ds x e)
-    (every_each (λ b. device_put b x) (Called a) (Called a) (λ b p. called_put a x b p) ds e h)
+    (every_each (λ b. device_after_put b x) (Called a) (Called a) (λ b p. called_put a x b p) ds e h)
 
 -- a device that is in after it was given a byte accepted it
 accepts : (a x : ℕ) (b : Behaviour) (p : DeviceInLeg b) → Called a b p →
-    (device_put b x p).inside ≡ true → Accepts a x b p
+    (device_after_put b x p).inside ≡ true → Accepts a x b p
 accepts a x b p h k = grind arith
 
 -- nine levels on
@@ -108,7 +109,7 @@ module _ (ds : List Behaviour) where
       let unanswered = leg_end ds (NoAnswer (record { leg = l })) e in
       let rest =
       later (a * 2) (write_result ds l xs 0 e) unanswered (any_in ds e) (9 * y + 8) refl (rw (nine y) at q) in
-      some_each (λ b. device_put b x) (λ b p. p.inside) (Called a) (Accepts a x) (accepts a x)
+      some_each (λ b. device_after_put b x) (λ b p. p.inside) (Called a) (Accepts a x) (accepts a x)
       ds (devices_after_puts ds (take y xs) e)
       (having_called a ds (take y xs) e (all_called a Write ds d))
       (heard_so l xs 0 e y h rest)

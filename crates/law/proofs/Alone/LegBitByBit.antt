@@ -16,7 +16,8 @@ use Rattle.device.specs.Device.{Behaviour}
 use Rattle.master.specs.declared.symbol.Symbol.TheVariants.{Listen}
 use Rattle.law.specs.Bank.{Bank, bank_map, bank_list}
 use Rattle.law.specs.TransferResult.{AddressedDevice, DeviceInLeg, device_after_take, byte_given_by}
-use Rattle.law.specs.TransferResult.{joint_byte, call_byte, byte_levels, LegResult, leg_end, with_byte}
+use Rattle.law.specs.TransferResult.{joint_byte, byte_levels, LegResult, leg_end, with_byte}
+use Rattle.transfer.specs.Leg.{address_byte}
 use Rattle.law.specs.TransferResult.{any_in, write_result, read_result, body_result, leg_result}
 use Rattle.master.specs.Cursor.{in_leg, at_end, Notes, CursorModel, cursor_at, byte_of_leg, master_sends}
 use Rattle.master.specs.Cursor.{symbol_in_leg, failure_kind, after_leg, after_byte, cursor_next}
@@ -24,7 +25,7 @@ use Rattle.wire.specs.ByteProgress.{bit_at, shift_in}
 use Rattle.port.specs.Port.{PortModel}
 use Rattle.master.specs.Script.{transfers}
 use Rattle.master.specs.Symbol.{bit_symbol}
-use Rattle.law.specs.Facts.{write_leg, read_leg}
+use Rattle.transfer.specs.Leg.{write_leg, read_leg}
 use Rattle.law.specs.Legal.{IsLegalBody, IsLegalLeg}
 use Rattle.law.proofs.Alone.PortsWithinByte.{addressing_at, writing_at, acknowledging_at, reading_at, out_at}
 use Rattle.law.proofs.Alone.PortsWithinByte.{joined_byte, reading_pulls, called_for, put_to_all, address_more}
@@ -72,7 +73,7 @@ odd_read : (a : ℕ) → eqb ((a * 2 + 1) % 2) 1 ≡ true
 odd_read a = grind (arith, nat_tests)
 
 -- and so does the byte that a transfer sends
-pub calls : (a : ℕ) (b : BodyModel) → a < 128 → Calls (leg a b) (call_byte a b)
+pub calls : (a : ℕ) (b : BodyModel) → a < 128 → Calls (leg a b) (address_byte a b)
 calls a (writes xs) h = record {
   sent_is = refl;
   small = omega arith;
@@ -302,7 +303,7 @@ module _ (ds : List Behaviour) (o : Option LegModel) (K : CursorModel → Bank P
       m = notes l ys 0 Done
 
       x : ℕ
-      x = call_byte g.address g.body
+      x = address_byte g.address g.body
 
       says : Calls g x
       says = calls g.address g.body (omega (arith, f.most))

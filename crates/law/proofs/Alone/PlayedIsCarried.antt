@@ -8,10 +8,9 @@ use Rattle.transfer.specs.Leg.{LegModel}
 use Rattle.device.specs.Device.{Behaviour}
 use Rattle.law.specs.Bank.{Bank, bank_map}
 use Rattle.law.specs.TransferResult.{AddressedDevice, DeviceInLeg, device_after_leg, leg_result, TransferResult}
-use Rattle.law.specs.TransferResult.{result_at_stop, result_after_leg, outcome_of_kind, transfer_result}
+use Rattle.law.specs.TransferResult.{result_at_stop, result_after_leg, transfer_result}
 use Rattle.master.specs.Cursor.{at_end, at_restart, in_leg, Notes, CursorModel}
 use Rattle.master.specs.Cursor.{cursor_at, new_cursor, outcome_of}
-use Rattle.transfer.specs.Outcome.{reported_bytes}
 use Rattle.port.specs.Port.{PortModel}
 use Rattle.master.specs.Script.{transfers}
 use Rattle.law.specs.Letter.{Letter, stop, restart, bit_letter}
@@ -43,10 +42,6 @@ module _ (ds : List Behaviour) where
 
   abbrev Goes : CursorModel → Bank PortModel ds → List Letter → CursorModel → Bank PortModel ds → Type 0
   Goes c s ts e u = Comes transfers (ports_side ds) slots_left c s ts e u
-
-  outcome_is : (k : OutcomeKind) (xs : List ℕ) →
-      record { kind = k; bytes = reported_bytes k xs } ≡ outcome_of_kind ds k xs
-  outcome_is k xs = grind arith
 
   -- leg l, after the bytes ys of an earlier one, before its first bit
   abbrev in_call : LegModel → ℕ → Option LegModel → List ℕ → CursorModel
@@ -122,7 +117,7 @@ module _ (ds : List Behaviour) where
       let closes : closing r.kind t.second n ≡ ended = ap (λ z. closing z t.second n) i ∙ c n in
       record {
         shows_stop = ended;
-        says = outcome_is r.kind r.bytes;
+        says = refl;
         comes = leg_goes t.first 0 t.second [] d (stop ∷ []) ended (after_stop r.devices) h
             (λ u q. subst (λ e. Goes e u (stop ∷ []) ended (after_stop r.devices)) (sym closes)
             (stops_at n r.devices u q));
@@ -141,7 +136,7 @@ module _ (ds : List Behaviour) where
       let ts = restart ∷ (map bit_letter w.levels ++ (stop ∷ [])) in
       record {
         shows_stop = ended;
-        says = outcome_is w.kind (r.bytes ++ w.bytes);
+        says = refl;
         comes = leg_goes g 0 (Some f) [] d ts ended (after_stop w.devices) h
             (λ u q. subst (λ z. Goes (closing z (Some f) (notes 0 r.bytes 0 z)) u ts ended (after_stop w.devices))
             (sym i) (goes_again f r.bytes r.devices u j q));

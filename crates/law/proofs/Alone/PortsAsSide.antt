@@ -6,7 +6,7 @@ use Rattle.port.specs.declared.port.Mode.TheVariants.{Out, Addressing}
 use Rattle.wire.specs.declared.event.Event.{Event}
 use Rattle.wire.specs.declared.wire.Signal.{Signal}
 use Rattle.law.specs.Bank.{Bank, bank_map, bank_list}
-use Rattle.law.specs.Bus.{all_pulls, HoldAnswers, ports_step}
+use Rattle.law.specs.BusModel.{all_pulls, HoldAnswers, ports_step}
 use Rattle.port.specs.Port.{PortModel, mode_pulls, port_pulls, port_after_bit, port_after_finish, new_port}
 use Rattle.law.specs.TransferResult.{AddressedDevice}
 use Rattle.wire.specs.ByteProgress.{progress}

@@ -7,7 +7,7 @@ use Rattle.transfer.specs.declared.leg.Direction.TheVariants.{Write, Read}
 use Rattle.device.specs.Device.{Behaviour}
 use Rattle.port.specs.declared.port.Mode.TheVariants.{Out, Addressing, Writing, Acknowledging, Reading}
 use Rattle.law.specs.Bank.{Bank, bank_map, bank_list}
-use Rattle.law.specs.TransferResult.{AddressedDevice, DeviceInLeg, device_after_call, device_put}
+use Rattle.law.specs.TransferResult.{AddressedDevice, DeviceInLeg, device_after_call, device_after_put}
 use Rattle.law.specs.TransferResult.{device_after_take, byte_given_by, device_after_leg, joint_byte, any_in}
 use Rattle.wire.specs.ByteProgress.{bit_at, shift_in, progress}
 use Rattle.transfer.specs.Leg.{BodyModel, writes, reads, body_direction, direction_of}
@@ -80,7 +80,7 @@ module _ (b : Behaviour) where
   write_one p k v x h = grind arith
 
   put_one : (p : DeviceInLeg b) (v : ℕ) (x : Bool) →
-      counting x b (writing_at 7 v b p) ≡ acknowledging_at Write b (device_put b (shift_in v x) p)
+      counting x b (writing_at 7 v b p) ≡ acknowledging_at Write b (device_after_put b (shift_in v x) p)
   put_one p v x = grind arith
 
   read_one : (p : DeviceInLeg b) (k : ℕ) (x : Bool) → ltb k 8 ≡ true →
@@ -143,7 +143,7 @@ module _ (ds : List Behaviour) where
   called_for a r d = bank_map (λ b. device_after_call b a r) ds d
 
   abbrev pub put_to_all : ℕ → Bank DeviceInLeg ds → Bank DeviceInLeg ds
-  put_to_all x d = bank_map (λ b. device_put b x) ds d
+  put_to_all x d = bank_map (λ b. device_after_put b x) ds d
 
   pub address_more : (d : Bank AddressedDevice ds) (k v : ℕ) (x : Bool) → ltb k 7 ≡ true →
       D.bit (bank_map (addressing_at k v) ds d) x ≡ bank_map (addressing_at (suc k) (shift_in v x)) ds d
@@ -171,7 +171,7 @@ module _ (ds : List Behaviour) where
   pub write_full : (d : Bank DeviceInLeg ds) (v : ℕ) (x : Bool) →
       D.bit (bank_map (writing_at 7 v) ds d) x ≡ bank_map (acknowledging_at Write) ds (put_to_all (shift_in v x) d)
   write_full d v x =
-      each_pair (writing_at 7 v) (counting x) (λ b. device_put b (shift_in v x)) (acknowledging_at Write)
+      each_pair (writing_at 7 v) (counting x) (λ b. device_after_put b (shift_in v x)) (acknowledging_at Write)
       (λ b p. put_one b p v x) ds d
 
   pub read_more : (d : Bank DeviceInLeg ds) (k : ℕ) (x : Bool) → ltb k 8 ≡ true →

@@ -14,7 +14,7 @@ use Rattle.master.specs.declared.symbol.Symbol.{Symbol}
 use Rattle.master.specs.Cursor.{new_cursor, outcome_of}
 use Rattle.master.specs.Script.{Script, transfers}
 use Rattle.law.specs.Bank.{Bank, bank_map, bank_list}
-use Rattle.law.specs.Bus.{all_pulls}
+use Rattle.law.specs.BusModel.{all_pulls}
 use Rattle.law.specs.TransferResult.{AddressedDevice, transfer_result}
 use Rattle.law.specs.Legal.{IsLegal}
 use Rattle.law.specs.Use.{addressed_device}

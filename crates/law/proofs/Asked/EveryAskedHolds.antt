@@ -22,13 +22,13 @@ use Rattle.law.specs.AskedLaw.{Acknowledged, AtSomePort, handed_over, called_bef
 use Rattle.law.specs.AskedLaw.{addresses, Contends, StillIn, HearsA, AskedLaw, EveryAsked}
 use Rattle.law.specs.Bank.{Bank, bank_map}
 use Rattle.law.specs.Book.{opened, book_told, book_after}
-use Rattle.law.specs.Bus.{no_holds, levels_at, told_at, ClocksInRange}
+use Rattle.law.specs.BusModel.{no_holds, levels_at, told_at, ClocksInRange}
 use Rattle.law.specs.TransferResult.{AddressedDevice, TransferResult, transfer_result}
-use Rattle.law.specs.Facts.{read_leg}
+use Rattle.transfer.specs.Leg.{read_leg}
 use Rattle.law.specs.Legal.{IsLegal}
 use Rattle.law.specs.Letter.{Letter, zero as low, one}
 use Rattle.law.specs.Monitor.{monitor_after_event, marked_after}
-use Rattle.law.specs.Use.{Use, lists_appended, event_at, marks_of, monitor_after, steps_then, use_after_tick, use_after}
+use Rattle.law.specs.Use.{Use, lists_appended, event_at, marks_of, monitor_with_event, steps_then, use_after_tick, use_after}
 use Rattle.law.specs.Use.{new_use}
 use Rattle.law.proofs.FarSide.{string, last}
 use Rattle.law.proofs.Asked.ReportedHandedOver.{joined_alone, joined_as, reported_alone}
@@ -171,10 +171,10 @@ module _ (hs : List HostBehaviour) (ds : List Behaviour) where
 
       -- what the monitor saw before it marks
       saw : (F : List Behaviour) (z : Use hs F) → z.book.turn ≡ opened → event_at hs F z.bus ≡ Fall →
-          monitor_after hs F z.watch z.book (event_at hs F z.bus) ≡ monitor_after_event z.watch Fall
+          monitor_with_event hs F z.watch z.book (event_at hs F z.bus) ≡ monitor_after_event z.watch Fall
       saw F z o e = grind (arith, o, e)
 
-      saw_too : monitor_after hs es y.watch y.book (event_at hs es y.bus) ≡ monitor_after_event x.watch Fall
+      saw_too : monitor_with_event hs es y.watch y.book (event_at hs es y.bus) ≡ monitor_after_event x.watch Fall
       saw_too = saw es y (s.turn ∙ hears.turn) falls_too ∙ ap (λ w. monitor_after_event w Fall) s.watch
 
       -- nobody is marked at a fall
@@ -206,7 +206,7 @@ module _ (hs : List HostBehaviour) (ds : List Behaviour) where
 
       spelled : then.watch.spelled ≡ hears.so_far ++ (low ∷ [])
       spelled = ap (λ w. w.spelled) (saw_too
-          ∙ (sym (saw ds x hears.turn hears.fall) ∙ ap (monitor_after hs ds x.watch x.book) hears.fall))
+          ∙ (sym (saw ds x hears.turn hears.fall) ∙ ap (monitor_with_event hs ds x.watch x.book) hears.fall))
           ∙ hears.acknowledge
 
       spelled_long : length then.watch.spelled ≡ suc place

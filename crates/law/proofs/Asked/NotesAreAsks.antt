@@ -10,7 +10,7 @@ use Rattle.wire.specs.declared.event.Event.{Event}
 use Rattle.wire.specs.declared.wire.Signal.{Signal}
 use Rattle.law.specs.AskedLaw.{StepsNoted, with_step, noting_steps, all_noting_steps, all_nothing_noted, all_steps}
 use Rattle.law.specs.Bank.{Bank, bank_map, bank_list}
-use Rattle.law.specs.Bus.{HoldAnswers, ports_step}
+use Rattle.law.specs.BusModel.{HoldAnswers, ports_step}
 use Rattle.law.specs.TransferResult.{AddressedDevice, DeviceInLeg}
 use Rattle.law.specs.Use.{lists_appended}
 use Rattle.law.proofs.Alone.PortsAsSide.{unheld}

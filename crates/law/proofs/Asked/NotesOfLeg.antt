@@ -11,7 +11,8 @@ use Rattle.transfer.specs.Address.{answers_to}
 use Rattle.law.specs.AskedLaw.{with_step, noting_steps, all_noting_steps, before_select, steps_of_calls, bytes_handed}
 use Rattle.law.specs.Bank.{Bank, bank_map}
 use Rattle.law.specs.TransferResult.{AddressedDevice, DeviceInLeg, device_after_select, device_after_call}
-use Rattle.law.specs.TransferResult.{device_after_put, device_put, device_after_take, device_after_leg, call_byte}
+use Rattle.law.specs.TransferResult.{device_with_answer, device_after_put, device_after_take, device_after_leg}
+use Rattle.transfer.specs.Leg.{address_byte}
 use Rattle.law.specs.TransferResult.{LegResult, leg_end, any_in, write_result, read_result, body_result, leg_result}
 use Rattle.law.proofs.Alone.ByteLawsHold.{took}
 use Rattle.law.proofs.Alone.PortsWithinByte.{called_for, put_to_all}
@@ -171,10 +172,10 @@ module _ (a : ℕ) (b : Behaviour) (d : AddressedDevice (noting_steps b)) where
         unowed = h.unowed;
       }
 
-  put_in : (x : ℕ) (hs : List ℕ) (p : DeviceInLeg N) → InLeg hs p → InLeg hs (device_put N x p)
+  put_in : (x : ℕ) (hs : List ℕ) (p : DeviceInLeg N) → InLeg hs p → InLeg hs (device_after_put N x p)
   put_in x hs p h =
       let q = b.put p.meaning.meaning x in
-      let w : DeviceInLeg N = device_after_put N p (N.put p.meaning x) in
+      let w : DeviceInLeg N = device_with_answer N p (N.put p.meaning x) in
       cond_both p.inside w p (InLeg hs)
       (λ i. subst (λ l. InLeg l w) (append-nil hs) (step_in hs p (put x q.0) q.1 q.0 tt i h))
       (λ i. h)
@@ -282,7 +283,7 @@ module _ (a : ℕ) where
 
     put_noted : (x : ℕ) (d : NotingDevices ds) (e : NotingInLeg ds) →
         Together DeviceInLeg In ds d e → Together DeviceInLeg In ds d (put_to_all es x e)
-    put_noted x d e h = together_each DeviceInLeg DeviceInLeg In In (λ b. device_put b x)
+    put_noted x d e h = together_each DeviceInLeg DeviceInLeg In In (λ b. device_after_put b x)
         (λ b d p q. (q.0, put_in a b d x q.0 p q.1)) ds d e h
 
     write_noted : (l : ℕ) (xs : List ℕ) (n : ℕ) (d : NotingDevices ds) (e : NotingInLeg ds) →
@@ -327,7 +328,7 @@ module _ (a : ℕ) where
         together_each DeviceInLeg AddressedDevice In After device_after_leg
         (λ b d p q. (q.0, settle_in a b d q.0 p q.1)) ds d
         (leg_result es l (record { address = a; body = g }) d).devices
-        (took_keeps es (λ xs w. Together DeviceInLeg In ds d w) (call_byte a g) (body_result es l g e)
+        (took_keeps es (λ xs w. Together DeviceInLeg In ds d w) (address_byte a g) (body_result es l g e)
         (leg_end es (NoAnswer (record { leg = l })) e) (any_in es e)
         (body_noted l g d) (called_noted (body_direction g) d))
 

@@ -9,7 +9,7 @@ use Rattle.wire.specs.declared.wire.Signal.{Signal}
 use Rattle.wire.specs.Wire.{signal}
 use Rattle.law.specs.Bank.{Bank, bank_map, bank_list}
 use Rattle.law.specs.Book.{closed}
-use Rattle.law.specs.Bus.{levels_at}
+use Rattle.law.specs.BusModel.{levels_at}
 use Rattle.law.specs.TransferResult.{AddressedDevice}
 use Rattle.law.specs.Use.{Use, steps_at, no_steps}
 use Rattle.law.proofs.Alone.PortsAsSide.{unheld, idle_port, idle_ports}

@@ -19,8 +19,8 @@ use Rattle.law.specs.AskedLaw.{all_noting_steps, all_steps, addresses}
 use Rattle.law.specs.Bank.{Bank, bank_map, bank_list, any_true}
 use Rattle.law.specs.Book.{Entry, entry_is_armed, entry_contending, entries_after_turn, arm_entry_at, Turn, closed}
 use Rattle.law.specs.Book.{opened, is_open, Book, book_told, book_after}
-use Rattle.law.specs.Bus.{all_pulls, HoldAnswers, ports_step, BusModel, arm_at, levels_at, after_levels, tick_at}
-use Rattle.law.specs.Bus.{told_at, is_at_rest, ClocksInRange}
+use Rattle.law.specs.BusModel.{all_pulls, HoldAnswers, ports_step, BusModel, arm_at, levels_at, after_levels, tick_at}
+use Rattle.law.specs.BusModel.{told_at, is_at_rest, ClocksInRange}
 use Rattle.law.specs.Monitor.{Monitor, new_monitor, monitor_after_event, monitor_after_marks}
 use Rattle.law.specs.Use.{lists_appended, Call, arms, ticks, runs, Use, event_at, marks_of, steps_at, no_steps}
 use Rattle.law.specs.Use.{steps_then, use_after_tick, use_after_ticks, use_after_call, use_after, addressed_device}

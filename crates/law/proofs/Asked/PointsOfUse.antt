@@ -10,7 +10,7 @@ use Rattle.port.specs.Port.{PortModel}
 use Rattle.law.specs.AskedLaw.{StillIn}
 use Rattle.law.specs.Bank.{Bank, bank_map}
 use Rattle.law.specs.Book.{closed, opened}
-use Rattle.law.specs.Bus.{ClocksInRange}
+use Rattle.law.specs.BusModel.{ClocksInRange}
 use Rattle.law.specs.Law.{Law}
 use Rattle.law.specs.Use.{Call, Use, use_after_call, use_after, new_use}
 use Rattle.law.proofs.FarSide.{string, last}

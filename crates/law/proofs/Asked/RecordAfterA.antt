@@ -16,8 +16,9 @@ use Rattle.law.specs.AskedLaw.{noting_steps, all_noting_steps, leg_of, acknowled
 use Rattle.law.specs.AskedLaw.{AtSomePort, body_writes}
 use Rattle.law.specs.Bank.{bank_map}
 use Rattle.law.specs.TransferResult.{AddressedDevice, DeviceInLeg, device_after_select, device_after_call}
-use Rattle.law.specs.TransferResult.{device_after_put, device_put, device_after_take, any_in}
-use Rattle.law.specs.Facts.{devices_after_puts, write_leg, read_leg}
+use Rattle.law.specs.TransferResult.{device_with_answer, device_after_put, device_after_take, any_in}
+use Rattle.law.specs.Facts.{devices_after_puts}
+use Rattle.transfer.specs.Leg.{write_leg, read_leg}
 use Rattle.law.specs.Legal.{IsLegal}
 use Rattle.law.specs.Letter.{zero as low, one}
 use Rattle.law.proofs.FarSide.{string, last}
@@ -45,9 +46,9 @@ module _ (a : ℕ) (r : Direction) where
       (λ e h. cc)
 
   put_took : (b : Behaviour) (x : ℕ) (ys : List ℕ) (p : DeviceInLeg (noting_steps b)) →
-      Took b ys p → Took b (ys ++ (x ∷ [])) (device_put (noting_steps b) x p)
+      Took b ys p → Took b (ys ++ (x ∷ [])) (device_after_put (noting_steps b) x p)
   put_took b x ys p h =
-      cond_both p.inside (device_after_put (noting_steps b) p ((noting_steps b).put p.meaning x)) p
+      cond_both p.inside (device_with_answer (noting_steps b) p ((noting_steps b).put p.meaning x)) p
       (Took b (ys ++ (x ∷ [])))
       (λ e i. let z = h e in (
         z.0,

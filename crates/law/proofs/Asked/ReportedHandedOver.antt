@@ -14,16 +14,17 @@ use Rattle.transfer.specs.declared.outcome.OutcomeKind.{OutcomeKind}
 use Rattle.transfer.specs.declared.outcome.OutcomeKind.TheVariants.{Done, NoAnswer, Refused}
 use Rattle.transfer.specs.Transfer.{TransferModel}
 use Rattle.transfer.specs.Leg.{BodyModel, writes, reads, LegModel, body_direction}
+use Rattle.transfer.specs.Outcome.{outcome_of_kind}
 use Rattle.device.specs.Device.{Behaviour, Step}
 use Rattle.transfer.specs.Address.{answers_to}
 use Rattle.law.specs.AskedLaw.{noting_steps, all_noting_steps, all_nothing_noted, all_steps, leg_of, steps_of_calls}
 use Rattle.law.specs.AskedLaw.{bytes_handed, called_before, handed_over, all_at, body_reads, read_before, JoinedFrom}
 use Rattle.law.specs.Bank.{Bank, bank_map, bank_list}
 use Rattle.law.specs.TransferResult.{AddressedDevice, DeviceInLeg, device_after_take, byte_given_by, device_after_leg}
-use Rattle.law.specs.TransferResult.{joint_byte, call_byte, LegResult, leg_end, any_in, write_result, read_result}
+use Rattle.law.specs.TransferResult.{joint_byte, LegResult, leg_end, any_in, write_result, read_result}
+use Rattle.transfer.specs.Leg.{address_byte}
 use Rattle.law.specs.TransferResult.{body_result, leg_result, result_after_leg, TransferResult, transfer_result}
-use Rattle.law.specs.TransferResult.{outcome_of_kind}
-use Rattle.law.specs.Facts.{read_leg}
+use Rattle.transfer.specs.Leg.{read_leg}
 use Rattle.law.proofs.Alone.ByteLawsHold.{took, mask}
 use Rattle.law.proofs.Asked.DeviceMaps.{device_addresses}
 use Rattle.law.proofs.Asked.NotesAreAsks.{NotingDevices, NotingInLeg}
@@ -180,9 +181,9 @@ module _ (a n : ℕ) where
       (handed_second f ds d.1 e.1 z.1 h.1 k.1)
 
 -- a transfer that is done has a last leg that is, and reports its bytes
-named_done : (es : List Behaviour) (k : OutcomeKind) (ys : List ℕ) → (outcome_of_kind es k ys).kind ≡ Done →
-    (k ≡ Done) × ((outcome_of_kind es k ys).bytes ≡ ys)
-named_done es k ys h = grind (arith, h)
+named_done : (k : OutcomeKind) (ys : List ℕ) → (outcome_of_kind k ys).kind ≡ Done →
+    (k ≡ Done) × ((outcome_of_kind k ys).bytes ≡ ys)
+named_done k ys h = grind (arith, h)
 
 -- the bytes of a leg that is done
 module _ (es : List Behaviour) where
@@ -217,7 +218,7 @@ module _ (es : List Behaviour) where
       e = called_for es g.address (body_direction g.body) d
 
       r : Bool → LegResult es
-      r t = took es (call_byte g.address g.body) (body_result es l g.body e)
+      r t = took es (address_byte g.address g.body) (body_result es l g.body e)
           (leg_end es (NoAnswer (record { leg = l })) e) t
 
       go : (t : Bool) → any_in es e ≡ t → (r t).kind ≡ Done → Answered l g d (r t)
@@ -284,7 +285,7 @@ module _ (ds : List Behaviour) (d : Bank AddressedDevice ds) (a n y : ℕ) (h : 
       c.outcome.kind ≡ Done → JoinedFrom (by (λ o. 0) c.devices) (slice_index_or c.outcome.bytes y 0)
   first_told None Done e g =
       let r = leg_result rs 0 (read_leg a n) new in
-      let z = named_done rs r.kind r.bytes g in
+      let z = named_done r.kind r.bytes g in
       subst (λ l. JoinedFrom (by (λ o. 0) (devices_after_leg rs r)) (slice_index_or l y 0))
       (sym (z.1 ∙ sym (append-nil r.bytes)))
       (in_first [] (devices_after_leg rs r) z.0 (no_calls_more ds (devices_after_leg rs r)))
@@ -292,14 +293,14 @@ module _ (ds : List Behaviour) (d : Bank AddressedDevice ds) (a n y : ℕ) (h : 
       let r = leg_result rs 0 (read_leg a n) new in
       let s = devices_after_leg rs r in
       let q = leg_result rs 1 w s in
-      let z = named_done rs q.kind (r.bytes ++ q.bytes) g in
+      let z = named_done q.kind (r.bytes ++ q.bytes) g in
       subst (λ l. JoinedFrom (by (λ o. 0) (devices_after_leg rs q)) (slice_index_or l y 0)) (sym z.1)
       (in_first q.bytes (devices_after_leg rs q) e
       (leg_more w.address ds s (devices_after_leg rs q) (leg_noted w.address ds 1 w.body s)))
   first_told o (NoAnswer p) e g =
-      let r = leg_result rs 0 (read_leg a n) new in let z = sym e ∙ (named_done rs r.kind r.bytes g).0 in cc
+      let r = leg_result rs 0 (read_leg a n) new in let z = sym e ∙ (named_done r.kind r.bytes g).0 in cc
   first_told o (Refused p) e g =
-      let r = leg_result rs 0 (read_leg a n) new in let z = sym e ∙ (named_done rs r.kind r.bytes g).0 in cc
+      let r = leg_result rs 0 (read_leg a n) new in let z = sym e ∙ (named_done r.kind r.bytes g).0 in cc
 
   second_told : (w : LegModel) → let r = leg_result rs 0 w new in (k : OutcomeKind) → r.kind ≡ k →
       let c = result_after_leg rs r k (Some (read_leg a n)) in
@@ -308,14 +309,14 @@ module _ (ds : List Behaviour) (d : Bank AddressedDevice ds) (a n y : ℕ) (h : 
   second_told w Done e g =
       let r = leg_result rs 0 w new in
       let q = leg_result rs 1 (read_leg a n) (devices_after_leg rs r) in
-      let z = named_done rs q.kind (r.bytes ++ q.bytes) g in
+      let z = named_done q.kind (r.bytes ++ q.bytes) g in
       subst (λ l. JoinedFrom (by (called_in w.address) (devices_after_leg rs q))
       (slice_index_or l (body_reads w.body + y) 0))
       (sym z.1) (in_second w e z.0)
   second_told w (NoAnswer p) e g =
-      let r = leg_result rs 0 w new in let z = sym e ∙ (named_done rs r.kind r.bytes g).0 in cc
+      let r = leg_result rs 0 w new in let z = sym e ∙ (named_done r.kind r.bytes g).0 in cc
   second_told w (Refused p) e g =
-      let r = leg_result rs 0 w new in let z = sym e ∙ (named_done rs r.kind r.bytes g).0 in cc
+      let r = leg_result rs 0 w new in let z = sym e ∙ (named_done r.kind r.bytes g).0 in cc
 
   -- a transfer carried alone by devices that have noted nothing
   abbrev result : TransferModel → TransferResult rs

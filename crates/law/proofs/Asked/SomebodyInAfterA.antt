@@ -15,10 +15,12 @@ use Rattle.master.specs.Script.{Script, transfers}
 use Rattle.port.specs.Port.{PortModel}
 use Rattle.law.specs.AskedLaw.{leg_of, acknowledge_at, body_writes}
 use Rattle.law.specs.Bank.{Bank, bank_map}
-use Rattle.law.specs.TransferResult.{AddressedDevice, DeviceInLeg, device_after_take, device_after_leg, call_byte}
+use Rattle.law.specs.TransferResult.{AddressedDevice, DeviceInLeg, device_after_take, device_after_leg}
+use Rattle.transfer.specs.Leg.{address_byte}
 use Rattle.law.specs.TransferResult.{byte_levels, LegResult, leg_end, any_in, write_result, read_result, body_result}
 use Rattle.law.specs.TransferResult.{leg_result, result_after_leg, transfer_result}
-use Rattle.law.specs.Facts.{devices_after_puts, write_leg}
+use Rattle.law.specs.Facts.{devices_after_puts}
+use Rattle.transfer.specs.Leg.{write_leg}
 use Rattle.law.specs.Legal.{IsLegalBody, IsLegalLeg, IsLegalSecond, IsLegal}
 use Rattle.law.specs.Letter.{Letter, zero as low, stop, restart, one, bit_letter}
 use Rattle.law.proofs.FarSide.{Side, ends as ends_with, heard, after, string, last}
@@ -167,7 +169,7 @@ module _ (ds : List Behaviour) where
       let s = leg_end ds (NoAnswer (record { leg = l })) e in
       let m : 9 + 9 * body_size g.body ≡ 9 * suc (body_size g.body) = omega arith in
       subst (λ k. Long k (leg_result ds l g d)) m
-      (longer_by (9 * body_size g.body) (call_byte g.address g.body) (body_result ds l g.body e) s (any_in ds e)
+      (longer_by (9 * body_size g.body) (address_byte g.address g.body) (body_result ds l g.body e) s (any_in ds e)
       refl (λ k. cc) (body_long l g.body e))
 
   abbrev E : Side
@@ -202,9 +204,9 @@ module _ (ds : List Behaviour) where
       ∙ (ap (λ u. E.bit u false) (bits_put x w h) ∙ write_on ds (put_to_all ds x w) false)
 
   leg_called : (a : ℕ) (b : BodyModel) (d : Bank AddressedDevice ds) → a < 128 →
-      plays (starts d) (byte_levels (call_byte a b) false) ≡ ready ds b (called_for ds a (body_direction b) d)
+      plays (starts d) (byte_levels (address_byte a b) false) ≡ ready ds b (called_for ds a (body_direction b) d)
   leg_called a b d h =
-      let x = call_byte a b in
+      let x = address_byte a b in
       let e = called_for ds a (body_direction b) d in
       let u = answers (body_direction b) e in
       let z : plays (starts d) (low_bits 8 x []) ≡ u =
@@ -259,7 +261,7 @@ module _ (ds : List Behaviour) where
       let e = called_for ds a (body_direction b) d in
       let r = body_result ds l b e in
       let s = leg_end ds (NoAnswer (record { leg = l })) e in
-      let x = call_byte a b in
+      let x = address_byte a b in
       let t : any_in ds e ≡ true = ninth ds x r s (any_in ds e) q in
       (t, after_bits x 0 r s (any_in ds e) (starts d) (ready ds b e) (ready ds b e) t (leg_called a b d h) refl)
 

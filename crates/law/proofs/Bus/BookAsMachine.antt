@@ -11,7 +11,7 @@ use Rattle.master.specs.declared.arming.Arming.{Arming}
 use Rattle.master.specs.declared.arming.Arming.TheVariants.{Unarmed, Armed}
 use Rattle.wire.specs.declared.event.Event.{Event}
 use Rattle.wire.specs.declared.event.Event.TheVariants.{Rise, Fall, Start, Stop, SteadyHigh, SteadyLow}
-use Rattle.master.specs.Arming.{is_armed, arming_after_arm}
+use Rattle.master.specs.Arming.{is_armed, answer_to_arm}
 use Rattle.law.specs.Bank.{Bank, bank_map, bank_list, any_true}
 use Rattle.law.specs.Book.{Entry, entry_is_armed, entry_contending, wanted_if, contender_transfer, entry_after_turn, arm_entry_at}
 use Rattle.law.specs.Book.{entries_after_turn, least_result, outcomes_of_turn, devices_after, Turn, closed, opened, Book, book_arm}
@@ -54,7 +54,7 @@ WantsIf (Armed t) w = is_some w ≡ true
 
 -- what arming comes to, where the host wants w
 abbrev arms_by : Arming (Unit {0}) → Option Transfer → Result (Unit {0}) ℕ × Arming (Unit {0})
-arms_by a w = arming_after_arm a (option_map (λ t. tt) w)
+arms_by a w = answer_to_arm a (option_map (λ t. tt) w)
 
 abbrev pub Kept : (hs : List HostBehaviour) → Bank Entry hs → Type 0
 Kept [] es = Unit {0}

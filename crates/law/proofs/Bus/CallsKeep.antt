@@ -2,7 +2,7 @@
 use Rattle.std.proofs.Common.{◌≡◌, ℕ, zero, suc, ◌+◌, Bool, true, false, cond, ltb, List, [], ◌∷◌, subst, arith}
 use Rattle.device.specs.Device.{Behaviour}
 use Rattle.host.specs.Host.{HostBehaviour}
-use Rattle.law.specs.Bus.{HoldAnswers, is_at_rest}
+use Rattle.law.specs.BusModel.{HoldAnswers, is_at_rest}
 use Rattle.law.specs.Use.{Call, arms, ticks, runs, Use, use_after_tick, use_after_ticks, use_after_call, use_after, ticks_of_run}
 use Rattle.law.specs.Use.{ticks_of_call, ticks_of}
 use Rattle.law.specs.Limits.{most_ticks}

@@ -9,14 +9,14 @@ use Rattle.master.specs.declared.mark.Mark.TheVariants.{Quiet, Lost}
 use Rattle.wire.specs.declared.wire.Signal.{Signal}
 use Rattle.law.specs.Bank.{Bank, bank_map, bank_list, any_true}
 use Rattle.law.specs.Book.{Entry, entry_is_armed}
-use Rattle.law.specs.Bus.{HoldAnswers, tick_at, told_at, is_at_rest}
+use Rattle.law.specs.BusModel.{HoldAnswers, tick_at, told_at, is_at_rest}
 use Rattle.master.specs.Master.{HostedMaster, hosted_is_armed, hosted_mark, hosted_pulls}
 use Rattle.law.specs.TransferResult.{AddressedDevice}
 use Rattle.law.specs.Use.{Use, use_after_tick, use_after_ticks, ticks_of_run, addressed_device}
 use Rattle.law.specs.Law.{true_count}
 use Rattle.master.specs.MasterState.{quiet, lost}
 use Rattle.port.specs.Port.{PortModel}
-use Rattle.law.specs.Run.{some_count, Running, run_after_ticks}
+use Rattle.law.specs.RunModel.{some_count, Running, run_after_ticks}
 use Rattle.master.specs.Script.{transfers}
 use Rattle.wire.specs.Pulls.{no_pulls}
 use Rattle.law.proofs.Alone.PortsAsSide.{unheld, idle_ports}

@@ -2,9 +2,9 @@
 use Rattle.std.proofs.Common.{◌≡◌, ℕ, zero, suc, max, List, [], ◌∷◌, None, refl, ap, sym, subst, arith}
 use Rattle.device.specs.Device.{Behaviour}
 use Rattle.host.specs.Host.{HostBehaviour}
-use Rattle.law.specs.Bus.{ClocksInRange}
+use Rattle.law.specs.BusModel.{ClocksInRange}
 use Rattle.law.specs.Bank.{Bank, bank_map, bank_list}
-use Rattle.master.specs.Master.{HostedMaster, hosted_new}
+use Rattle.master.specs.Master.{HostedMaster, reset_hosted_master}
 use Rattle.master.specs.MasterState.{new_master}
 use Rattle.master.specs.Script.{transfers}
 use Rattle.port.specs.Port.{reset_port, PortModel}
@@ -33,7 +33,7 @@ abbrev new_cells : (hs : List HostBehaviour) → Bank HostedMaster hs → List (
 new_cells hs ms = bank_list new_cell hs ms
 
 new_masters : (hs : List HostBehaviour) (ms : Bank HostedMaster hs) →
-    masters_of hs (bank_map hosted_new hs ms) ≡ looks transfers (idling transfers) (new_cells hs ms)
+    masters_of hs (bank_map reset_hosted_master hs ms) ≡ looks transfers (idling transfers) (new_cells hs ms)
 new_masters [] ms = refl
 new_masters (h ∷ hs) ms = grind (arith, new_masters hs)
 
@@ -62,7 +62,7 @@ new_count [] ms = refl
 new_count (h ∷ hs) ms = new_count hs ms.1
 
 new_hosts : (hs : List HostBehaviour) (ms : Bank HostedMaster hs) →
-    hosts_of hs (bank_map hosted_new hs ms) ≡ meanings hs (bank_map new_entry hs ms)
+    hosts_of hs (bank_map reset_hosted_master hs ms) ≡ meanings hs (bank_map new_entry hs ms)
 new_hosts [] ms = refl
 new_hosts (h ∷ hs) ms = ap (λ r. (ms.0.meaning, r)) (new_hosts hs ms.1)
 

@@ -6,7 +6,7 @@ use Rattle.port.specs.declared.port.Mode.{Mode}
 use Rattle.wire.specs.declared.event.Event.{Event}
 use Rattle.wire.specs.declared.event.Event.TheVariants.{Rise, Fall, Start, Stop, SteadyHigh, SteadyLow}
 use Rattle.law.specs.Bank.{Bank, bank_list}
-use Rattle.law.specs.Bus.{all_pulls, HoldAnswers, ports_step}
+use Rattle.law.specs.BusModel.{all_pulls, HoldAnswers, ports_step}
 use Rattle.transfer.specs.Limits.{most_count}
 use Rattle.port.specs.Port.{PortModel, port_pulls, port_after_bit}
 use Rattle.law.proofs.Machine.BusAsMachine.{hold_after}

@@ -11,15 +11,15 @@ use Rattle.master.specs.declared.mark.Mark.TheVariants.{Quiet, Lost}
 use Rattle.wire.specs.declared.event.Event.TheVariants.{Stop}
 use Rattle.law.specs.Bank.{Bank, bank_list, any_true}
 use Rattle.law.specs.Book.{entry_is_armed, Turn, opened, Book, book_arm, contender_results, least_result}
-use Rattle.law.specs.Bus.{BusModel, HoldAnswers, arm_at, levels_at, told_at}
+use Rattle.law.specs.BusModel.{BusModel, HoldAnswers, arm_at, levels_at, told_at}
 use Rattle.law.specs.TransferResult.{TransferResult}
-use Rattle.law.specs.Use.{Call, runs, Use, event_at, marks_of, monitor_after, use_after_call, use_after, use_after_ticks, ticks_of_run}
+use Rattle.law.specs.Use.{Call, runs, Use, event_at, marks_of, monitor_with_event, use_after_call, use_after, use_after_ticks, ticks_of_run}
 use Rattle.law.specs.Use.{ticks_of_call, ticks_of, armed_now}
 use Rattle.law.specs.Law.{FirstDifference, true_count, Point, Loses, StopTells, TickLaw, Law}
 use Rattle.master.specs.MasterState.{quiet, lost, VerdictModel, master_step}
 use Rattle.master.specs.Master.{HostedMaster, mark_of, told_outcome, hosted_mark, hosted_told}
 use Rattle.wire.specs.declared.wire.Signal.{Signal}
-use Rattle.law.specs.Run.{RunModel, Running, run_after_ticks, run_start, run_report, run_at}
+use Rattle.law.specs.RunModel.{RunModel, Running, run_after_ticks, run_start, run_report, run_at}
 use Rattle.master.specs.Mark.{is_told}
 use Rattle.master.specs.Script.{transfers}
 use Rattle.law.specs.Letter.{first_or_same}
@@ -91,7 +91,7 @@ module _ (hs : List HostBehaviour) (ds : List Behaviour) where
       silent = λ e i m. pulls_none hs x.bus.masters i (marked_pull_none hs ds x due k (turn_some b.turn l e) i m);
     }
 
-    noted : monitor_after hs ds x.watch b (event_at hs ds x.bus) ≡ later hs ds x due k
+    noted : monitor_with_event hs ds x.watch b (event_at hs ds x.bus) ≡ later hs ds x due k
     noted = watches_as hs ds x due k
 
     -- of two contenders, by their letters
@@ -156,7 +156,7 @@ module _ (hs : List HostBehaviour) (ds : List Behaviour) where
 
     spells : event_at hs ds x.bus ≡ Stop → b.turn ≡ opened → (best : TransferResult ds) →
         least_result ds (contender_results hs ds b) ≡ Some best →
-        (monitor_after hs ds x.watch b (event_at hs ds x.bus)).spelled ≡ best.letters
+        (monitor_with_event hs ds x.watch b (event_at hs ds x.bus)).spelled ≡ best.letters
     spells e o best c =
         let z = goes.spelled (sym (event_seen hs ds x.bus) ∙ e) l (turn_is b.turn l o) in
         let same : carry ds b.devices z.least ≡ best = let f = leads z.least z.leads in cc in

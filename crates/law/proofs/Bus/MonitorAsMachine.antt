@@ -10,9 +10,9 @@ use Rattle.law.specs.Bank.{Bank, bank_map, bank_list, any_true}
 use Rattle.law.specs.Book.{Entry, entry_contending, entry_is_armed, Turn, closed, opened, is_open, Book}
 use Rattle.master.specs.Master.{HostedMaster, hosted_mark, hosted_told, told_outcome}
 use Rattle.law.specs.Monitor.{Monitor, new_monitor, marked_after}
-use Rattle.law.specs.Use.{monitor_after}
+use Rattle.law.specs.Use.{monitor_with_event}
 use Rattle.master.specs.MasterState.{VerdictModel}
-use Rattle.law.specs.Run.{some_count}
+use Rattle.law.specs.RunModel.{some_count}
 use Rattle.master.specs.Script.{transfers}
 use Rattle.law.proofs.Machine.BookOfMachine.{count, watch, spell, falses, turned, marks_too, telling, tellings}
 use Rattle.law.proofs.Machine.BusAsMachine.{verdicts}
@@ -34,7 +34,7 @@ module _ (hs : List HostBehaviour) (ds : List Behaviour) where
   opening_as w b false = refl
 
   closed_as : (w : Monitor) (b : Book hs ds) (e : Event) → Kept hs b.entries →
-      monitor_after hs ds w (record { entries = b.entries; devices = b.devices; turn = closed }) e ≡
+      monitor_with_event hs ds w (record { entries = b.entries; devices = b.devices; turn = closed }) e ≡
       turned transfers w (tasks hs b.entries) None e
   closed_as w b SteadyHigh k = opening_as w b (any_true (bank_list entry_is_armed hs b.entries))
       ∙ ap (λ v. cond v (watch 0 false (falses (tasks hs b.entries)) (spell None [])) w) (sym (any_armed hs b.entries k))
@@ -45,13 +45,13 @@ module _ (hs : List HostBehaviour) (ds : List Behaviour) where
   closed_as w b SteadyLow k = refl
 
   watched_parts : (w : Monitor) (b : Book hs ds) (v : Turn) (e : Event) → Kept hs b.entries →
-      monitor_after hs ds w (record { entries = b.entries; devices = b.devices; turn = v }) e ≡
+      monitor_with_event hs ds w (record { entries = b.entries; devices = b.devices; turn = v }) e ≡
       turned transfers w (tasks hs b.entries) (turn_if v (contenders hs b.entries)) e
   watched_parts w b opened e k = refl
   watched_parts w b closed e k = closed_as w b e k
 
   pub watched_as : (w : Monitor) (b : Book hs ds) (e : Event) → Sound hs ds b →
-      monitor_after hs ds w b e ≡ turned transfers w (tasks hs b.entries) (turn_if b.turn (contenders hs b.entries)) e
+      monitor_with_event hs ds w b e ≡ turned transfers w (tasks hs b.entries) (turn_if b.turn (contenders hs b.entries)) e
   watched_as w b e k = watched_parts w b b.turn e k.kept
 
 -- marks by verdicts

@@ -2,7 +2,7 @@
 use Rattle.std.proofs.Common.{◌≡◌, ℕ, zero, suc, ◌+◌, Bool, true, false, cond, ltb, List, [], ◌∷◌, ◌++◌, sym, refl, ap, ◌∙◌, arith}
 use Rattle.device.specs.Device.{Behaviour}
 use Rattle.host.specs.Host.{HostBehaviour}
-use Rattle.law.specs.Bus.{HoldAnswers, is_at_rest}
+use Rattle.law.specs.BusModel.{HoldAnswers, is_at_rest}
 use Rattle.law.specs.Use.{Call, arms, ticks, runs, Use, use_after_tick, one_by_one, call_in_ticks, in_ticks, use_after_call, use_after}
 use Rattle.law.specs.Use.{use_after_ticks, ticks_of_run, ticks_of_call, ticks_of}
 use Rattle.law.specs.Limits.{most_ticks}

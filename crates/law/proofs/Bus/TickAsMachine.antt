@@ -7,7 +7,7 @@ use Rattle.wire.specs.declared.event.Event.TheVariants.{Fall}
 use Rattle.wire.specs.declared.levels.Levels.{Levels}
 use Rattle.wire.specs.declared.wire.Signal.{Signal}
 use Rattle.law.specs.Bank.{Bank, bank_map, bank_list}
-use Rattle.law.specs.Bus.{all_pulls, HoldAnswers, ports_step, BusModel, levels_at, tick_at}
+use Rattle.law.specs.BusModel.{all_pulls, HoldAnswers, ports_step, BusModel, levels_at, tick_at}
 use Rattle.transfer.specs.Limits.{most_count}
 use Rattle.master.specs.Master.{HostedMaster, hosted_step, hosted_pulls}
 use Rattle.master.specs.MasterState.{MasterModel}

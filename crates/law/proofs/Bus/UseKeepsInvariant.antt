@@ -9,19 +9,19 @@ use Rattle.transfer.specs.Transfer.{TransferModel}
 use Rattle.wire.specs.declared.event.Event.{Event}
 use Rattle.wire.specs.declared.wire.Signal.{Signal}
 use Rattle.master.specs.declared.arming.Arming.{Arming}
-use Rattle.master.specs.Arming.{arming_after_arm}
+use Rattle.master.specs.Arming.{answer_to_arm}
 use Rattle.master.specs.Master.{HostedMaster, hosted_step, hosted_told}
 use Rattle.master.specs.Script.{transfers}
 use Rattle.wire.specs.Event.{event_between}
 use Rattle.wire.specs.Wire.{signal}
 use Rattle.law.specs.Bank.{Bank, bank_map, bank_list}
 use Rattle.law.specs.Book.{book_arm, book_told}
-use Rattle.law.specs.Bus.{arm_master_at, arm_at, HoldAnswers, BusModel, levels_at, told_at}
+use Rattle.law.specs.BusModel.{arm_master_at, arm_at, HoldAnswers, BusModel, levels_at, told_at}
 use Rattle.law.specs.Legal.{IsLegal}
 use Rattle.law.specs.Limits.{ticks_of_turn}
 use Rattle.law.specs.Monitor.{Monitor, monitor_after_marks}
-use Rattle.law.specs.Use.{Call, arms, Use, event_at, marks_of, monitor_after, use_after_tick, use_after_call, use_after}
-use Rattle.law.specs.Use.{ticks_of}
+use Rattle.law.specs.Use.{Call, arms, Use, event_at, marks_of, monitor_with_event, use_after_tick, use_after_call}
+use Rattle.law.specs.Use.{use_after, ticks_of}
 use Rattle.law.proofs.Alone.IdleBetweenTurns.{Idle}
 use Rattle.law.proofs.Alone.PortsAsSide.{unheld, ports_side, idle_ports}
 use Rattle.law.proofs.Machine.BusAsMachine.{Bus, verdicts, tick, tick_event, tick_verdicts}
@@ -61,7 +61,7 @@ arm_masters_are (h ∷ hs) ms zero = refl
 arm_masters_are (h ∷ hs) ms (suc n) = ap (λ l. ms.0.master ∷ l) (arm_masters_are hs ms.1 n)
 
 answer_one : (a : Arming TransferModel) (w : Option TransferModel) →
-    (arming_after_arm a w).0 ≡ answer_if (task_of transfers a) w
+    (answer_to_arm a w).0 ≡ answer_if (task_of transfers a) w
 answer_one a w = grind arith
 
 arm_answer_is : (hs : List HostBehaviour) (ms : Bank HostedMaster hs) (n : ℕ) →
@@ -198,14 +198,14 @@ module _ (hs : List HostBehaviour) (ds : List Behaviour) where
     abbrev pub later : Monitor
     later = turned transfers x.watch b.armed b.turn e
 
-    pub watches_as : monitor_after hs ds x.watch x.book (event_at hs ds x.bus) ≡ later
+    pub watches_as : monitor_with_event hs ds x.watch x.book (event_at hs ds x.bus) ≡ later
     watches_as = watched_as hs ds x.watch x.book (event_at hs ds x.bus) k.sound
         ∙ ap (turned transfers x.watch b.armed b.turn) (event_seen x.bus)
 
-    notes_as : monitor_after_marks (monitor_after hs ds x.watch x.book (event_at hs ds x.bus)) (marks_of hs ds x.bus) ≡
-        noted transfers later (tick_verdicts transfers (ports_side ds) u)
+    notes_as : monitor_after_marks (monitor_with_event hs ds x.watch x.book (event_at hs ds x.bus))
+        (marks_of hs ds x.bus) ≡ noted transfers later (tick_verdicts transfers (ports_side ds) u)
     notes_as =
-        let w = monitor_after hs ds x.watch x.book (event_at hs ds x.bus) in
+        let w = monitor_with_event hs ds x.watch x.book (event_at hs ds x.bus) in
         let ms = x.bus.masters in
         ap (λ (l : List Bool). record w { marked = l })
         (marked_as hs ms (signal x.bus.wire (levels_at hs ds x.bus)) w.marked)

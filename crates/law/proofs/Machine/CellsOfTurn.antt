@@ -4,7 +4,7 @@ use Rattle.std.proofs.Common.{None, Option, refl, ap, ◌∙◌, ap₂, map, ari
 use Rattle.std.specs.Prelude.{slice_index_or}
 use Rattle.master.specs.declared.arming.Arming.{Arming}
 use Rattle.master.specs.declared.symbol.Symbol.{Symbol}
-use Rattle.master.specs.Arming.{arming_after_arm}
+use Rattle.master.specs.Arming.{answer_to_arm}
 use Rattle.master.specs.MasterState.{MasterModel, VerdictModel, quiet, lost, arm_master}
 use Rattle.master.specs.Script.{Script}
 use Rattle.law.proofs.Machine.PhasesOfSlot.{rank, Cell, out, live, looks, notes, cursor, cursors, some, alive, Every}
@@ -217,10 +217,10 @@ module _ (W : Script) where
   abbrev pub arm_cells : List (Cell W) → Tasks W → ℕ → List (Cell W)
   arm_cells cs ws i = at_place arm_cell cs ws i
 
-  arm_none : (a : Arming W.Task) (w : Option W.Task) → is_some (task_of W a) ≡ true → (arming_after_arm a w).1 ≡ a
+  arm_none : (a : Arming W.Task) (w : Option W.Task) → is_some (task_of W a) ≡ true → (answer_to_arm a w).1 ≡ a
   arm_none a w h = grind arith
 
-  arm_task : (a : Arming W.Task) (w : Option W.Task) → armed_if (task_of W a) w ≡ task_of W (arming_after_arm a w).1
+  arm_task : (a : Arming W.Task) (w : Option W.Task) → armed_if (task_of W a) w ≡ task_of W (answer_to_arm a w).1
   arm_task a w = grind arith
 
   pub arm_looks : (f : MasterModel W → W.Cursor → MasterModel W)

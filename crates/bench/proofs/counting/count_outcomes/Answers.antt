@@ -2,8 +2,8 @@ use Rattle.std.proofs.Common.{◌≡◌, ℕ, ◌+◌, List, ap, ◌∙◌, subs
 use Rattle.device.specs.Device.{Behaviour}
 use Rattle.host.specs.Host.{HostBehaviour}
 use Rattle.law.specs.declared.tick.Tick.{Tick}
-use Rattle.law.specs.Bus.{BusModel, HoldAnswers, Answered, tick_at}
-use Rattle.law.specs.Run.{told_count}
+use Rattle.law.specs.BusModel.{BusModel, HoldAnswers, Answered, tick_at}
+use Rattle.law.specs.RunModel.{told_count}
 use Rattle.exchange.specs.Bus.{bus_model}
 use Rattle.bench.specs.Counting.{count_after, bus_readied, Works}
 use Rattle.bench.proofs.counting.count_outcomes.Goals as goal

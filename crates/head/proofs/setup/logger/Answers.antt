@@ -1,5 +1,5 @@
 use Rattle.std.proofs.Common.{[], ◌∷◌, refl}
-use Rattle.transfer.specs.Transfer.{transfer_model, one_write, write_and_read}
+use Rattle.transfer.specs.Transfer.{transfer_model, checked_write, checked_write_then_read}
 use Rattle.host.specs.ListHost.{list_host, list_host_model}
 use Rattle.head.proofs.Heads.{serves}
 use Rattle.support.proofs.Made.{ok_same, unwrapped, at}
@@ -8,9 +8,9 @@ use Rattle.head.proofs.setup.logger.Goals as goal
 pub returns : goal.returns
 returns c =
     let at_80 = ok_same (unwrapped (λ a. a.number) _ _ _ c.new-2.ensures c.unwrap-registers.ensures) in
-    let write = at (λ n. one_write n (3 ∷ 127 ∷ 128 ∷ [])) _ _ _ _
+    let write = at (λ n. checked_write n (3 ∷ 127 ∷ 128 ∷ [])) _ _ _ _
     (unwrapped transfer_model _ _ _ c.write.ensures c.unwrap-write.ensures) at_80 refl in
-    let read = at (λ n. write_and_read n (3 ∷ []) 2) _ _ _ _
+    let read = at (λ n. checked_write_then_read n (3 ∷ []) 2) _ _ _ _
     (unwrapped transfer_model _ _ _ c.write_then_read.ensures c.unwrap-read.ensures) at_80 refl in (
       _,
       (c.unwrap-write.result, c.unwrap-read.result, write, read, refl),

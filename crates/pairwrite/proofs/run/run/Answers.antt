@@ -3,7 +3,7 @@ use Rattle.std.proofs.Output.{writes_in_calls_nil}
 use Rattle.exchange.specs.Bus.{bus_model}
 use Rattle.support.specs.Output.{Puts}
 use Rattle.support.specs.PrintedRun.{listened_start, unheld_lines}
-use Rattle.pairwrite.specs.Run.{most_ticks, run_lines}
+use Rattle.pairwrite.specs.Run.{ticks_of_run, run_lines}
 use Rattle.pairwrite.specs.Setup.{pair_hosts, pair_devices}
 use Rattle.pairwrite.proofs.Texts.{none, two}
 use Rattle.pairwrite.proofs.run.run.Goals as goal
@@ -20,7 +20,7 @@ returns g c =
     let hs = pair_hosts in
     let ds = pair_devices in
     let text : unheld_lines hs ds 2 c.ticks_of_turns.result (listened_start hs ds 2 (bus_model c.bus_of-bus.result)) ≡ run_lines m n =
-    rw c.ticks_of_turns.ensures (ap (λ u. unheld_lines hs ds 2 most_ticks (listened_start hs ds 2 u)) bus_is) in
+    rw c.ticks_of_turns.ensures (ap (λ u. unheld_lines hs ds 2 ticks_of_run (listened_start hs ds 2 u)) bus_is) in
     inr (
       xs,
       run_lines m n,

@@ -1,8 +1,8 @@
 use Rattle.std.proofs.Common.{ap, ◌∙◌}
-use Rattle.law.specs.Bus.{levels_at}
+use Rattle.law.specs.BusModel.{levels_at}
 use Rattle.exchange.specs.Bus.{bus_model}
 use Rattle.law.specs.Limits.{most_masters}
-use Rattle.law.specs.Run.{told_count}
+use Rattle.law.specs.RunModel.{told_count}
 use Rattle.wire.specs.Wire.{signal}
 use Rattle.exchange.proofs.Counting.{told_count_is_all}
 use Rattle.exchange.proofs.bus.Bus.outcomes_of_tick.Goals as goal

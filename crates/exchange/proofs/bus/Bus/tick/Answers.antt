@@ -1,6 +1,6 @@
 use Rattle.std.proofs.Common.{◌≡◌, ap, ◌∙◌, subst}
 use Rattle.law.proofs.WithoutHolds.{tick_unheld}
-use Rattle.law.specs.Bus.{AllMayAnswer, levels_at}
+use Rattle.law.specs.BusModel.{AllMayAnswer, levels_at}
 use Rattle.exchange.specs.Bus.{bus_model}
 use Rattle.exchange.proofs.Ticks.{levels_are, tick_is}
 use Rattle.wire.specs.Wire.{signal}

@@ -2,7 +2,7 @@ use Rattle.std.proofs.Common.{◌≡◌, cond, arith, rules, tests}
 use Rattle.std.proofs.lemmas.Iterator.{YieldsList-from_map, YieldsList-from_slice}
 use Rattle.std.proofs.lemmas.Iterator.Consumers.{fits_by_from_yields_list, sum_by_from_yields_List}
 use Rattle.std.proofs.lemmas.List.Sums.{count_by-le-length}
-use Rattle.law.specs.Run.{told_count}
+use Rattle.law.specs.RunModel.{told_count}
 use Rattle.master.specs.Mark.{is_told}
 use Rattle.law.proofs.tick.Tick.outcome_count.Goals as goal
 

@@ -3,6 +3,8 @@ use Rattle.std.specs.Prelude.{◌≡◌, ℕ, ◌<◌, ◌≤◌, Bool, not, ◌
 use Rattle.std.proofs.Common.{zero-lt-suc}
 use Rattle.device.specs.Device.{Behaviour}
 use Rattle.host.specs.Host.{HostBehaviour}
+use Rattle.transfer.specs.declared.refusal.Refusal.TheVariants.{NoSuchMaster}
+use Rattle.transfer.specs.Refusal.{number}
 use Rattle.transfer.specs.Outcome.{OutcomeModel}
 use Rattle.law.specs.declared.tick.Tick.{Tick}
 use Rattle.master.specs.declared.mark.Mark.{Mark}
@@ -14,7 +16,7 @@ use Rattle.wire.specs.declared.wire.Wire.{Wire}
 use Rattle.law.specs.Bank.{Bank, bank_map, bank_list, BankAll, bank_update, any_true}
 use Rattle.law.specs.Limits.{most_masters}
 use Rattle.transfer.specs.Limits.{most_count}
-use Rattle.master.specs.Master.{HostedMaster, hosted_step, hosted_mark, hosted_told, hosted_pulls, hosted_is_armed, hosted_new, hosted_arm}
+use Rattle.master.specs.Master.{HostedMaster, hosted_step, hosted_mark, hosted_told, hosted_pulls, hosted_is_armed, reset_hosted_master, hosted_arm}
 use Rattle.port.specs.Port.{MayAnswer, PortModel, port_pulls, port_step, reset_port}
 use Rattle.wire.specs.Pulls.{no_pulls, pulls_or, levels_of}
 use Rattle.wire.specs.Event.{event_between}
@@ -24,10 +26,10 @@ abbrev pub all_pulls : List Pulls → Pulls
 all_pulls [] = no_pulls
 all_pulls (p ∷ ps) = pulls_or p (all_pulls ps)
 
--- past the last master the answer is 5
+-- past the last master it is refused
 abbrev pub arm_master_at : (hs : List HostBehaviour) →
     Bank HostedMaster hs → ℕ → Result (Unit {0}) ℕ × Bank HostedMaster hs
-arm_master_at hs p n = bank_update (Err 5) hosted_arm hs p n
+arm_master_at hs p n = bank_update (Err (number NoSuchMaster)) hosted_arm hs p n
 
 -- an answer to hold
 abbrev pub HoldAnswer : Type 0
@@ -80,7 +82,7 @@ module _ (hs : List HostBehaviour) (ds : List Behaviour) where
   abbrev pub new_bus : Bank HostedMaster hs → Bank PortModel ds → BusModel
   new_bus ms ps = record {
     wire = new_wire;
-    masters = bank_map hosted_new hs ms;
+    masters = bank_map reset_hosted_master hs ms;
     ports = bank_map reset_port ds ps;
   }
 

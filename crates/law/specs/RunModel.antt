@@ -1,11 +1,13 @@
 -- A run: ticks until the bus is at rest or so many are made, and its load.
 use Rattle.std.specs.Prelude.{◌≡◌, ℕ, zero, suc, ◌+◌, ◌*◌, ◌/◌, false, if◌then◌else◌, List, is_some, Ok, Err, Option, Result, ◌==◌, nat_lt}
 use Rattle.std.specs.List.{count_by}
+use Rattle.transfer.specs.declared.refusal.Refusal.TheVariants.{TooManyTicks}
+use Rattle.transfer.specs.Refusal.{number}
 use Rattle.device.specs.Device.{Behaviour}
 use Rattle.host.specs.Host.{HostBehaviour}
 use Rattle.master.specs.declared.mark.Mark.{Mark}
 use Rattle.master.specs.Mark.{is_told}
-use Rattle.law.specs.Bus.{BusModel, HoldAnswers, Answered, tick_at, told_at, is_at_rest}
+use Rattle.law.specs.BusModel.{BusModel, HoldAnswers, Answered, tick_at, told_at, is_at_rest}
 use Rattle.law.specs.Limits.{most_ticks}
 
 abbrev pub some_count : {A : Type 0} → List (Option A) → ℕ
@@ -59,10 +61,10 @@ module _ (hs : List HostBehaviour) (ds : List Behaviour) where
   abbrev pub run_report : Running → RunModel
   run_report r = record { ticks = r.ticks; outcomes = r.outcomes; load = load r.busy r.ticks }
 
-  -- more ticks than a run may make are refused with 8
+  -- more ticks than a run may make are refused
   abbrev pub run_at : BusModel hs ds → ℕ → (ℕ → HoldAnswers ds) → Result RunModel ℕ × BusModel hs ds
   run_at u n a = let r = run_after_ticks n a (run_start u) in
-      if nat_lt most_ticks n then (Err 8, u) else (Ok (run_report r), r.bus)
+      if nat_lt most_ticks n then (Err (number TooManyTicks), u) else (Ok (run_report r), r.bus)
 
   -- in each tick of such a run the answers are ones that the devices may give
   abbrev pub RunAnswered : BusModel hs ds → ℕ → (ℕ → HoldAnswers ds) → Type 0
