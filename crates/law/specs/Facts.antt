@@ -4,7 +4,7 @@ use Rattle.std.specs.List.{fold}
 use Rattle.transfer.specs.declared.leg.Direction.TheVariants.{Write, Read}
 use Rattle.transfer.specs.declared.outcome.OutcomeKind.TheVariants.{Done}
 use Rattle.transfer.specs.Transfer.{TransferModel}
-use Rattle.transfer.specs.Leg.{writes, reads, LegModel, write_leg, read_leg}
+use Rattle.transfer.specs.Leg.{write_leg, read_leg}
 use Rattle.device.specs.Device.{Behaviour}
 use Rattle.law.specs.Bank.{Bank, bank_map, bank_list, BankAll}
 use Rattle.law.specs.TransferResult.{AddressedDevice, DeviceInLeg, device_after_call, device_after_put, device_after_take, byte_given_by, joint_byte, any_in, leg_result, transfer_result}

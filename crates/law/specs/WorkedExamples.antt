@@ -5,7 +5,6 @@ use Rattle.transfer.specs.declared.outcome.OutcomeKind.TheVariants.{Done, NoAnsw
 use Rattle.transfer.specs.Address.{checked_address}
 use Rattle.transfer.specs.ClockPair.{checked_counts}
 use Rattle.transfer.specs.Transfer.{TransferModel, transfer_model, answer_to_write, answer_to_read, write_to, read_from, write_then_read}
-use Rattle.transfer.specs.Leg.{writes, reads}
 use Rattle.transfer.specs.Outcome.{OutcomeModel}
 use Rattle.device.specs.Device.{Behaviour}
 use Rattle.device.specs.Busy.{BusyModel, busy_over}
