@@ -168,7 +168,7 @@ module _ (hs : List HostBehaviour) (ds : List Behaviour) where
   -- it is not marked lost so far, or nobody else contends
   abbrev pub StillIn : Use hs ds → ℕ → TransferModel → Type 0
   StillIn x i t = Contends x i t ×
-      ((slice_index_or x.watch.marked i false ≡ false) ⊎
+      ((slice_index_or x.monitor.marked i false ≡ false) ⊎
       ((j : ℕ) (u : TransferModel) → Contends x j u → j ≡ i))
 
   -- in the next tick, a fall, a contender hears A after the call of leg k and m bytes written in
@@ -182,7 +182,7 @@ module _ (hs : List HostBehaviour) (ds : List Behaviour) where
       pub so_far : List Letter
       pub place : length so_far ≡ acknowledge_at t k m
       pub acknowledge :
-          (monitor_with_event hs ds x.watch x.book Fall).spelled ≡ so_far ++ (Letter.zero ∷ [])
+          (monitor_with_event hs ds x.monitor x.book Fall).spelled ≡ so_far ++ (Letter.zero ∷ [])
 
   -- what holds of the steps asked
   pub record AskedLaw (x : Use hs ds) : Type 0 where

@@ -41,7 +41,7 @@ module _ (hs : List HostBehaviour) (ds : List Behaviour) where
     pub counts : x.accepted ≡ x.told + true_count (armed_now hs ds x)
     -- who was marked lost in the open turn pulls neither line
     pub silent : x.book.turn ≡ opened →
-        (i : ℕ) → slice_index_or x.watch.marked i false ≡ true →
+        (i : ℕ) → slice_index_or x.monitor.marked i false ≡ true →
         slice_index_or (bank_list hosted_pulls hs x.bus.masters) i no_pulls ≡ no_pulls
 
   -- what a mark of a loss in the next tick says of master i
@@ -49,20 +49,20 @@ module _ (hs : List HostBehaviour) (ds : List Behaviour) where
     pub turn : x.book.turn ≡ opened
     pub own : TransferResult ds
     pub contends : slice_index_or (contender_results hs ds x.book) i None ≡ Some own
-    pub before : slice_index_or x.watch.marked i false ≡ false
+    pub before : slice_index_or x.monitor.marked i false ≡ false
     pub best : TransferResult ds
     pub leads : least_result ds (contender_results hs ds x.book) ≡ Some best
     -- its string first differs from the least in the symbol that is shown, which has risen
     pub letter : ℕ
-    pub shown : (monitor_with_event hs ds x.watch x.book (event_at hs ds x.bus)).falls ≡ suc letter
-    pub risen : (monitor_with_event hs ds x.watch x.book (event_at hs ds x.bus)).risen ≡ true
+    pub shown : (monitor_with_event hs ds x.monitor x.book (event_at hs ds x.bus)).falls ≡ suc letter
+    pub risen : (monitor_with_event hs ds x.monitor x.book (event_at hs ds x.bus)).risen ≡ true
     pub first : FirstDifference best.letters own.letters letter
 
   -- what the stop in the next tick says of a contender i: told are those never marked lost, and
   -- those whose string comes first
   pub record StopTells (x : Use hs ds) (i : ℕ) (own : TransferResult ds) : Type 0 where
     pub unmarked : is_some (slice_index_or (told_at hs ds x.bus) i None) ≡
-        not (slice_index_or x.watch.marked i false)
+        not (slice_index_or x.monitor.marked i false)
     pub first : (is_some (slice_index_or (told_at hs ds x.bus) i None) ≡ true) ↔
         ((j : ℕ) (other : TransferResult ds) →
         slice_index_or (contender_results hs ds x.book) j None ≡ Some other →
@@ -87,7 +87,7 @@ module _ (hs : List HostBehaviour) (ds : List Behaviour) where
     -- what was spelled is the least string
     pub spells : event_at hs ds x.bus ≡ Stop → x.book.turn ≡ opened →
         (best : TransferResult ds) → least_result ds (contender_results hs ds x.book) ≡ Some best →
-        (monitor_with_event hs ds x.watch x.book (event_at hs ds x.bus)).spelled ≡ best.letters
+        (monitor_with_event hs ds x.monitor x.book (event_at hs ds x.bus)).spelled ≡ best.letters
 
   pub record Law (x : Use hs ds) : Type 0 where
     pub point : Point x

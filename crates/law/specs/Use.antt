@@ -42,7 +42,7 @@ module _ (hs : List HostBehaviour) (ds : List Behaviour) where
   pub record Use : Type 0 where
     pub bus : BusModel hs ds
     pub book : Book hs ds
-    pub watch : Monitor
+    pub monitor : Monitor
     -- the steps that each port asked of its device in the open turn
     pub asked : List (List Step)
     -- how many arms were accepted, and how many outcomes told
@@ -88,7 +88,7 @@ module _ (hs : List HostBehaviour) (ds : List Behaviour) where
   use_after_tick x a = record x {
     bus = (tick_at hs ds x.bus a).1;
     book = book_after hs ds x.book (event_at x.bus);
-    watch = monitor_after_marks (monitor_with_event x.watch x.book (event_at x.bus)) (marks_of x.bus);
+    monitor = monitor_after_marks (monitor_with_event x.monitor x.book (event_at x.bus)) (marks_of x.bus);
     asked = steps_then x;
     told = x.told + some_count (told_at hs ds x.bus);
   }
@@ -116,7 +116,7 @@ module _ (hs : List HostBehaviour) (ds : List Behaviour) where
       devices = bank_map addressed_device ds ps;
       turn = closed;
     };
-    watch = new_monitor [];
+    monitor = new_monitor [];
     asked = bank_list (λ b p. []) ds ps;
     accepted = 0;
     told = 0;

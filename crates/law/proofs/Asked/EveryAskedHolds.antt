@@ -171,11 +171,11 @@ module _ (hs : List HostBehaviour) (ds : List Behaviour) where
 
       -- what the monitor saw before it marks
       saw : (F : List Behaviour) (z : Use hs F) → z.book.turn ≡ opened → event_at hs F z.bus ≡ Fall →
-          monitor_with_event hs F z.watch z.book (event_at hs F z.bus) ≡ monitor_after_event z.watch Fall
+          monitor_with_event hs F z.monitor z.book (event_at hs F z.bus) ≡ monitor_after_event z.monitor Fall
       saw F z o e = grind (arith, o, e)
 
-      saw_too : monitor_with_event hs es y.watch y.book (event_at hs es y.bus) ≡ monitor_after_event x.watch Fall
-      saw_too = saw es y (s.turn ∙ hears.turn) falls_too ∙ ap (λ w. monitor_after_event w Fall) s.watch
+      saw_too : monitor_with_event hs es y.monitor y.book (event_at hs es y.bus) ≡ monitor_after_event x.monitor Fall
+      saw_too = saw es y (s.turn ∙ hears.turn) falls_too ∙ ap (λ w. monitor_after_event w Fall) s.monitor
 
       -- nobody is marked at a fall
       nobody_lost : (i : ℕ) → slice_index_or (marks_of hs ds x.bus) i Quiet ≡ Lost → ⊥
@@ -196,30 +196,30 @@ module _ (hs : List HostBehaviour) (ds : List Behaviour) where
         contends_then i t c,
         inl
             (ap (λ w. slice_index_or (marked_after w.marked (marks_of hs es y.bus)) i false) saw_too
-            ∙ (ap (λ ks. slice_index_or (marked_after x.watch.marked ks) i false) (same_marks hs ds y x s)
-            ∙ unmarked_after x.watch.marked (marks_of hs ds x.bus) i m (nobody_lost i))),
+            ∙ (ap (λ ks. slice_index_or (marked_after x.monitor.marked ks) i false) (same_marks hs ds y x s)
+            ∙ unmarked_after x.monitor.marked (marks_of hs ds x.bus) i m (nobody_lost i))),
       )
       still_in i t (c, inr l) = (contends_then i t c, inr (λ j u e. l j u (contended j u e)))
 
       abbrev place : ℕ
       place = acknowledge_at t k n
 
-      spelled : then.watch.spelled ≡ hears.so_far ++ (low ∷ [])
+      spelled : then.monitor.spelled ≡ hears.so_far ++ (low ∷ [])
       spelled = ap (λ w. w.spelled) (saw_too
-          ∙ (sym (saw ds x hears.turn hears.fall) ∙ ap (monitor_with_event hs ds x.watch x.book) hears.fall))
+          ∙ (sym (saw ds x hears.turn hears.fall) ∙ ap (monitor_with_event hs ds x.monitor x.book) hears.fall))
           ∙ hears.acknowledge
 
-      spelled_long : length then.watch.spelled ≡ suc place
+      spelled_long : length then.monitor.spelled ≡ suc place
       spelled_long = ap (λ l. length l) spelled
           ∙ (let z = length-append hears.so_far (low ∷ []) in let w = hears.place in omega arith)
 
       abbrev Answers : List ℕ → List (List Step) → Type 0
       Answers os rs = AtSomePort os rs g.address (Acknowledged g.body n)
 
-      reached_by : IsLegal t → (then.watch.spelled ≡ []) ⊎ SoFarAlone hs es then t →
+      reached_by : IsLegal t → (then.monitor.spelled ≡ []) ⊎ SoFarAlone hs es then t →
           Answers (addresses hs ds x) (steps_then hs ds x)
       reached_by l (inl z) =
-          let q : length then.watch.spelled ≡ 0 = ap length z in
+          let q : length then.monitor.spelled ≡ 0 = ap length z in
           let r = spelled_long in
           absurd (omega arith)
       reached_by l (inr f) =
@@ -230,7 +230,7 @@ module _ (hs : List HostBehaviour) (ds : List Behaviour) where
           let gone : m ≡ suc place = sym f.many ∙ spelled_long in
           let side : NotingPorts ds = ports_of (suc place) new in
           let devices : then.book.devices ≡ devices_to after_before new = ap (λ b. b.devices) same_book ∙ sym again in
-          let letters : then.watch.spelled ≡ string_of new = f.letters
+          let letters : then.monitor.spelled ≡ string_of new = f.letters
           ∙ (ap string_of devices ∙ spelled_to es es after_before m t new) in
           let there : slice_index_or (string_of new) place one ≡ low =
           sym (ap (λ l. slice_index_or l place one) letters)

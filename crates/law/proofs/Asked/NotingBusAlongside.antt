@@ -1,5 +1,5 @@
 -- Beside each use of a bus goes one of a bus of noting devices, which have noted what was asked since the turn opened.
-use Rattle.std.proofs.Common.{◌≡◌, ℕ, zero, suc, Bool, false, cond, ◌||◌, ltb, ◌⊎◌, List, [], ◌∷◌, ◌++◌, append-nil}
+use Rattle.std.proofs.Common.{◌≡◌, ℕ, suc, Bool, false, cond, ◌||◌, ◌⊎◌, List, [], ◌∷◌, ◌++◌, append-nil}
 use Rattle.std.proofs.Common.{ap₂, length, Option, sym, refl, ap, ◌∙◌, subst, inl, inr, arith}
 use Rattle.std.proofs.lemmas.Bool.{cond_both}
 use Rattle.transfer.specs.Outcome.{OutcomeModel}
@@ -20,40 +20,20 @@ use Rattle.law.specs.Bank.{Bank, bank_map, bank_list, any_true}
 use Rattle.law.specs.Book.{Entry, entry_is_armed, entry_contending, entries_after_turn, arm_entry_at, Turn, closed}
 use Rattle.law.specs.Book.{opened, is_open, Book, book_told, book_after}
 use Rattle.law.specs.BusModel.{all_pulls, HoldAnswers, ports_step, BusModel, arm_at, levels_at, after_levels, tick_at}
-use Rattle.law.specs.BusModel.{told_at, is_at_rest, ClocksInRange}
+use Rattle.law.specs.BusModel.{told_at, ClocksInRange}
 use Rattle.law.specs.Monitor.{Monitor, new_monitor, monitor_after_event, monitor_after_marks}
-use Rattle.law.specs.Use.{lists_appended, Call, arms, ticks, runs, Use, event_at, marks_of, steps_at, no_steps}
-use Rattle.law.specs.Use.{steps_then, use_after_tick, use_after_ticks, use_after_call, use_after, addressed_device}
+use Rattle.law.specs.Use.{lists_appended, Call, arms, ticks, Use, event_at, marks_of, steps_at, no_steps}
+use Rattle.law.specs.Use.{steps_then, use_after_tick, use_after_call, use_after, addressed_device}
 use Rattle.law.specs.Use.{new_use}
 use Rattle.law.specs.Law.{Law}
-use Rattle.law.specs.Limits.{most_ticks}
 use Rattle.law.proofs.Asked.DeviceMaps.{pulls_to, devices_at, devices_at_to, port_addresses, device_addresses}
 use Rattle.law.proofs.Asked.DeviceMaps.{same_addresses, devices_of_idle}
 use Rattle.law.proofs.Asked.NotesAreAsks.{NotingDevices, lists_appended_assoc, length_lists_appended, forgetting}
 use Rattle.law.proofs.Asked.NotesAreAsks.{bare_devices, bare_ports, noted_by, length_noted, noted_unheld, same_holds}
 use Rattle.law.proofs.Asked.NotesAreAsks.{steps_noted, steps_bare, with_notes, new_bare}
+use Rattle.law.proofs.Bus.CallsKeep.{calls_keep}
 use Rattle.law.proofs.Asked.PointsOfUse.{AtRest, Standing, after_calls, then_one, law_holds, stands_holds, law_then}
 use Rattle.law.proofs.Asked.PointsOfUse.{stands_then}
-
--- what arms and ticks keep, calls keep
-module _ (hs : List HostBehaviour) (ds : List Behaviour) (P : Use hs ds → Type 0)
-    (armed : (x : Use hs ds) (n : ℕ) → P x → P (use_after_call hs ds x (arms n)))
-    (ticked : (x : Use hs ds) (a : HoldAnswers ds) → P x → P (use_after_tick hs ds x a)) where
-  run_keeps : (n k : ℕ) (a : ℕ → HoldAnswers ds) (x : Use hs ds) → P x → P (use_after_ticks hs ds n k a x)
-  run_keeps zero k a x p = p
-  run_keeps (suc n) k a x p = let y = use_after_tick hs ds x (a k) in
-      cond_both (is_at_rest hs ds x.bus) x (use_after_ticks hs ds n (suc k) a y) P
-      (λ e. p) (λ e. run_keeps n (suc k) a y (ticked x (a k) p))
-
-  call_keeps : (x : Use hs ds) (c : Call hs ds) → P x → P (use_after_call hs ds x c)
-  call_keeps x (arms n) p = armed x n p
-  call_keeps x (ticks a) p = ticked x a p
-  call_keeps x (runs n a) p =
-      cond_both (ltb most_ticks n) x (use_after_ticks hs ds n 0 a x) P (λ e. p) (λ e. run_keeps n 0 a x p)
-
-  calls_keep : (x : Use hs ds) (cs : List (Call hs ds)) → P x → P (use_after hs ds x cs)
-  calls_keep x [] p = p
-  calls_keep x (c ∷ cs) p = calls_keep (use_after_call hs ds x c) cs (call_keeps x c p)
 
 module _ (hs : List HostBehaviour) where
   -- the entries and the turn after a tick, by what they were and who is told
@@ -171,7 +151,7 @@ module _ (hs : List HostBehaviour) (ds : List Behaviour) where
     pub entries : y.book.entries ≡ x.book.entries
     pub turn : y.book.turn ≡ x.book.turn
     pub devices : bare_devices ds y.book.devices ≡ x.book.devices
-    pub watch : y.watch ≡ x.watch
+    pub monitor : y.monitor ≡ x.monitor
     pub placed : addresses hs ds x ≡ device_addresses ds x.book.devices
     pub many : length x.asked ≡ length ds
     -- since the turn opened
@@ -224,7 +204,7 @@ module _ (hs : List HostBehaviour) (ds : List Behaviour) where
       entries = ap (λ b. (arm_entry_at hs b n).1) s.entries;
       turn = s.turn;
       devices = s.devices;
-      watch = s.watch;
+      monitor = s.monitor;
       placed = s.placed;
       many = s.many;
       noted = s.noted;
@@ -272,9 +252,9 @@ module _ (hs : List HostBehaviour) (ds : List Behaviour) where
     turn : then.book.turn ≡ now.book.turn
     turn = turn_is hs es y.book e ∙ ((λ i. turn_after hs (s.entries i) (s.turn i) (g i)) ∙ sym (turn_is hs ds x.book f))
 
-    watch : then.watch ≡ now.watch
-    watch = λ i. monitor_after_marks
-        (monitored hs (s.watch i) (s.turn i) (turn i) (s.entries i) (g i)) (same_marks y x s i)
+    monitor : then.monitor ≡ now.monitor
+    monitor = λ i. monitor_after_marks
+        (monitored hs (s.monitor i) (s.turn i) (turn i) (s.entries i) (g i)) (same_marks y x s i)
 
     free : {F : List Behaviour} → (u : BusModel hs F) → event_at hs F u ≡ Stop →
         busy_after u.wire.busy (event_at hs F u) ≡ false
@@ -313,7 +293,7 @@ module _ (hs : List HostBehaviour) (ds : List Behaviour) where
       entries = entries;
       turn = turn;
       devices = devices;
-      watch = watch;
+      monitor = monitor;
       placed = placed;
       many = asked_many y x s;
       noted = noted_if now.book.turn refl;
@@ -358,7 +338,7 @@ module _ (hs : List HostBehaviour) (ds : List Behaviour) where
       entries = refl;
       turn = refl;
       devices = first_devices ds ps;
-      watch = refl;
+      monitor = refl;
       placed = first_addresses ds ps;
       many = length_listed (List Step) (λ b p. []) ds ps;
       noted = first_noted ds ps;
@@ -395,8 +375,8 @@ module _ (hs : List HostBehaviour) (ds : List Behaviour) where
           }
 
       pub beside : (cs : List (Call hs ds)) → Beside (use_after hs ds first cs)
-      beside cs = calls_keep hs ds Beside
-          (λ x n b. called_beside x b (arms n) (arms n) (armed_alongside (noting_use x b) x n b.alongside))
-          (λ x a b. called_beside x b (ticks a) (ticks (same_holds ds a))
+      beside cs = calls_keep hs ds (λ m x. Beside x)
+          (λ m x n b. called_beside x b (arms n) (arms n) (armed_alongside (noting_use x b) x n b.alongside))
+          (λ m x a b. called_beside x b (ticks a) (ticks (same_holds ds a))
           (ticked_alongside (noting_use x b) x a (side_by_side x b a)))
-          first cs (record { calls_made = []; is = refl; noting_calls = []; alongside = first_alongside })
+          0 first cs (record { calls_made = []; is = refl; noting_calls = []; alongside = first_alongside })

@@ -31,9 +31,9 @@ module _ (hs : List HostBehaviour) (ds : List Behaviour) where
   -- so far the turn is the transfer carried alone
   pub record SoFarAlone (x : Use hs ds) (t : TransferModel) : Type 0 where
     pub slots_gone : ℕ
-    pub letters : x.watch.spelled ≡
+    pub letters : x.monitor.spelled ≡
         string transfers (ports_side ds) slots_gone (new_cursor t) (opened_ports ds x.book.devices)
-    pub many : length x.watch.spelled ≡ slots_gone
+    pub many : length x.monitor.spelled ≡ slots_gone
     pub ports : bank_map unheld ds x.bus.ports ≡
         last transfers (ports_side ds) slots_gone (new_cursor t) (opened_ports ds x.book.devices)
 
@@ -42,11 +42,11 @@ module _ (hs : List HostBehaviour) (ds : List Behaviour) where
     pub at_rest : AtRest x
     -- before the first letter nothing is said
     pub so_far : x.book.turn ≡ opened → (i : ℕ) (t : TransferModel) → StillIn hs ds x i t →
-        (x.watch.spelled ≡ []) ⊎ SoFarAlone x t
+        (x.monitor.spelled ≡ []) ⊎ SoFarAlone x t
 
   so_far_alone : (x : Use hs ds) (t : TransferModel) →
       ForNow transfers (ports_side ds) (seen_use hs ds x) t →
-      (x.watch.spelled ≡ []) ⊎ SoFarAlone x t
+      (x.monitor.spelled ≡ []) ⊎ SoFarAlone x t
   so_far_alone x t (inl e) = inl e
   so_far_alone x t (inr f) =
       inr (record { slots_gone = f.slots_gone; letters = f.letters; many = f.many; ports = f.side })

@@ -91,7 +91,7 @@ module _ (hs : List HostBehaviour) (ds : List Behaviour) where
       silent = λ e i m. pulls_none hs x.bus.masters i (marked_pull_none hs ds x due k (turn_some b.turn l e) i m);
     }
 
-    noted : monitor_with_event hs ds x.watch b (event_at hs ds x.bus) ≡ later hs ds x due k
+    noted : monitor_with_event hs ds x.monitor b (event_at hs ds x.bus) ≡ later hs ds x due k
     noted = watches_as hs ds x due k
 
     -- of two contenders, by their letters
@@ -156,7 +156,7 @@ module _ (hs : List HostBehaviour) (ds : List Behaviour) where
 
     spells : event_at hs ds x.bus ≡ Stop → b.turn ≡ opened → (best : TransferResult ds) →
         least_result ds (contender_results hs ds b) ≡ Some best →
-        (monitor_with_event hs ds x.watch b (event_at hs ds x.bus)).spelled ≡ best.letters
+        (monitor_with_event hs ds x.monitor b (event_at hs ds x.bus)).spelled ≡ best.letters
     spells e o best c =
         let z = goes.spelled (sym (event_seen hs ds x.bus) ∙ e) l (turn_is b.turn l o) in
         let same : carry ds b.devices z.least ≡ best = let f = leads z.least z.leads in cc in

@@ -14,7 +14,7 @@ use Rattle.law.specs.Use.{monitor_with_event}
 use Rattle.master.specs.MasterState.{VerdictModel}
 use Rattle.law.specs.RunModel.{some_count}
 use Rattle.master.specs.Script.{transfers}
-use Rattle.law.proofs.Machine.BookOfMachine.{count, watch, spell, falses, turned, marks_too, telling, tellings}
+use Rattle.law.proofs.Machine.BookOfMachine.{count, monitor_at, spell, falses, turned, marks_too, telling, tellings}
 use Rattle.law.proofs.Machine.BusAsMachine.{verdicts}
 use Rattle.law.proofs.Bus.BookAsMachine.{tasks, contenders, turn_if, Kept, any_armed, Sound}
 use Rattle.law.proofs.Bus.TickAsMachine.{masters_of}
@@ -29,15 +29,15 @@ module _ (hs : List HostBehaviour) (ds : List Behaviour) where
       (record { entries = bank_map entry_contending hs b.entries; devices = b.devices; turn = opened })
       (record { entries = b.entries; devices = b.devices; turn = closed })).turn)
       (new_monitor (bank_list (λ h x. false) hs b.entries)) w ≡
-      cond v (watch 0 false (falses (tasks hs b.entries)) (spell None [])) w
-  opening_as w b true = ap (λ l. watch 0 false l (spell None [])) (falses_are hs b.entries)
+      cond v (monitor_at 0 false (falses (tasks hs b.entries)) (spell None [])) w
+  opening_as w b true = ap (λ l. monitor_at 0 false l (spell None [])) (falses_are hs b.entries)
   opening_as w b false = refl
 
   closed_as : (w : Monitor) (b : Book hs ds) (e : Event) → Kept hs b.entries →
       monitor_with_event hs ds w (record { entries = b.entries; devices = b.devices; turn = closed }) e ≡
       turned transfers w (tasks hs b.entries) None e
   closed_as w b SteadyHigh k = opening_as w b (any_true (bank_list entry_is_armed hs b.entries))
-      ∙ ap (λ v. cond v (watch 0 false (falses (tasks hs b.entries)) (spell None [])) w) (sym (any_armed hs b.entries k))
+      ∙ ap (λ v. cond v (monitor_at 0 false (falses (tasks hs b.entries)) (spell None [])) w) (sym (any_armed hs b.entries k))
   closed_as w b Fall k = refl
   closed_as w b (Rise x) k = refl
   closed_as w b Start k = refl

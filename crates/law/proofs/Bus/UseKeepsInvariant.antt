@@ -109,7 +109,7 @@ module _ (hs : List HostBehaviour) (ds : List Behaviour) where
 
   -- a use as a point of the machine
   abbrev pub seen_use : Use hs ds → Point transfers (ports_side ds)
-  seen_use x = point transfers (ports_side ds) (seen hs ds x.bus) (booked hs ds x.book) x.watch
+  seen_use x = point transfers (ports_side ds) (seen hs ds x.bus) (booked hs ds x.book) x.monitor
 
   abbrev StandsThere : Point transfers (ports_side ds) → ℕ → Type 0
   StandsThere P n = Stands (game ds) IsLegal (Idle ds) P n
@@ -141,7 +141,7 @@ module _ (hs : List HostBehaviour) (ds : List Behaviour) where
     pub side_as : x.bus.wire.busy ≡ false → bank_map unheld ds x.bus.ports ≡ idle_ports ds x.book.devices
     side_as = stands_side (game ds) k.stands
 
-    pub marked_pull_none : is_some b.turn ≡ true → (i : ℕ) → slice_index_or x.watch.marked i false ≡ true →
+    pub marked_pull_none : is_some b.turn ≡ true → (i : ℕ) → slice_index_or x.monitor.marked i false ≡ true →
         pulling transfers (masters_of hs x.bus.masters) i ≡ false
     marked_pull_none = stands_out (game ds) k.stands
 
@@ -164,7 +164,7 @@ module _ (hs : List HostBehaviour) (ds : List Behaviour) where
 
     arm_point_as : (i : ℕ) → seen_use (use_after_call hs ds x (arms i)) ≡
         arm_point transfers (ports_side ds) P (wants_of hs (hosts_of hs x.bus.masters)) i
-    arm_point_as i = λ j. record { machine = arm_seen i j; booked = arm_booked i j; monitor = x.watch }
+    arm_point_as i = λ j. record { machine = arm_seen i j; booked = arm_booked i j; monitor = x.monitor }
 
     armed_keeps : (i : ℕ) → Kept (use_after_call hs ds x (arms i)) n
     armed_keeps i =
@@ -196,16 +196,16 @@ module _ (hs : List HostBehaviour) (ds : List Behaviour) where
         ∙ sym (tells_booked hs ds x.book (event_at hs ds x.bus))))
 
     abbrev pub later : Monitor
-    later = turned transfers x.watch b.armed b.turn e
+    later = turned transfers x.monitor b.armed b.turn e
 
-    pub watches_as : monitor_with_event hs ds x.watch x.book (event_at hs ds x.bus) ≡ later
-    watches_as = watched_as hs ds x.watch x.book (event_at hs ds x.bus) k.sound
-        ∙ ap (turned transfers x.watch b.armed b.turn) (event_seen x.bus)
+    pub watches_as : monitor_with_event hs ds x.monitor x.book (event_at hs ds x.bus) ≡ later
+    watches_as = watched_as hs ds x.monitor x.book (event_at hs ds x.bus) k.sound
+        ∙ ap (turned transfers x.monitor b.armed b.turn) (event_seen x.bus)
 
-    notes_as : monitor_after_marks (monitor_with_event hs ds x.watch x.book (event_at hs ds x.bus))
+    notes_as : monitor_after_marks (monitor_with_event hs ds x.monitor x.book (event_at hs ds x.bus))
         (marks_of hs ds x.bus) ≡ noted transfers later (tick_verdicts transfers (ports_side ds) u)
     notes_as =
-        let w = monitor_with_event hs ds x.watch x.book (event_at hs ds x.bus) in
+        let w = monitor_with_event hs ds x.monitor x.book (event_at hs ds x.bus) in
         let ms = x.bus.masters in
         ap (λ (l : List Bool). record w { marked = l })
         (marked_as hs ms (signal x.bus.wire (levels_at hs ds x.bus)) w.marked)

@@ -148,8 +148,8 @@ spell o ls = record { latched = o; letters = ls }
 abbrev pub fallen : Option Bool → List Letter → Spell
 fallen o ls = spell None (ls ++ letters_of_bit o)
 
-abbrev pub watch : ℕ → Bool → List Bool → Spell → Monitor
-watch n r v z = record { falls = n; risen = r; marked = v; latch = z.latched; spelled = z.letters }
+abbrev pub monitor_at : ℕ → Bool → List Bool → Spell → Monitor
+monitor_at n r v z = record { falls = n; risen = r; marked = v; latch = z.latched; spelled = z.letters }
 
 abbrev pub falses : {A : Type 0} → List (Option A) → List Bool
 falses os = map (λ o. false) os
@@ -163,7 +163,7 @@ module _ (W : Script) where
   -- a turn that opens is watched afresh
   abbrev pub turned : Monitor → Tasks W → Option (Tasks W) → Event → Monitor
   turned w os (Some l) e = sees_event w e
-  turned w os None SteadyHigh = cond (any os) (watch 0 false (falses os) (spell None [])) w
+  turned w os None SteadyHigh = cond (any os) (monitor_at 0 false (falses os) (spell None [])) w
   turned w os None Fall = sees_event w Fall
   turned w os None (Rise x) = sees_event w (Rise x)
   turned w os None Start = sees_event w Start

@@ -16,7 +16,7 @@ use Rattle.law.proofs.Machine.PhasesOfSlot.{fresh, settled, some, alive, Timed, 
 use Rattle.law.proofs.Machine.PhasesOfSlot.{opened_bus, low_bus, fresh_bus, settled_bus, carries}
 use Rattle.law.proofs.Machine.Arbitration.{at, slots, opened as opens_at}
 use Rattle.law.proofs.Machine.BookOfMachine.{Tasks, armed_if, arm_book, arm_masters, begins, Book, book, Spell}
-use Rattle.law.proofs.Machine.BookOfMachine.{spell, watch, arm_bus}
+use Rattle.law.proofs.Machine.BookOfMachine.{spell, monitor_at, arm_bus}
 use Rattle.law.proofs.Machine.CellsOfTurn.{cell_armeds, Holding, Within, marked, never, arm_cells, arm_looks}
 use Rattle.law.proofs.Machine.CellsOfTurn.{arm_armeds, arm_timed, arm_holding, arm_within, arm_some, arm_cursors}
 use Rattle.law.proofs.Machine.CellsOfTurn.{arm_marked, arm_advance}
@@ -103,7 +103,7 @@ module _ (G : Game) where
     marks f T = marked W f T.contenders T.cells
 
     abbrev pub in_turn : (Symbol → Bool) → Turn Fits Rest → Bus W D → ℕ → Bool → Spell → Point W D
-    in_turn f T u n risen sp = point W D u (book W D T.armed T.rest (Some T.contenders)) (watch n risen (marks f T) sp)
+    in_turn f T u n risen sp = point W D u (book W D T.armed T.rest (Some T.contenders)) (monitor_at n risen (marks f T) sp)
 
     abbrev pub at_claim : Turn Fits Rest → Point W D
     at_claim T = in_turn never T (claimed_bus W D T.cells T.rest) 0 false (spell None [])
@@ -186,7 +186,7 @@ module _ (G : Game) where
       arm_in_turn lost f keeps u T {k} {risen} {sp} {n} st =
           let b : Book W D = book W D (arm_turn T).armed T.rest (Some T.contenders) in
           let u' : Bus W D = record u { masters = looks W f (arm_turn T).cells } in
-          arm_phase f keeps u T.cells T.holding (subst (λ v. Stands (point W D u' b (watch k risen v sp)) n)
+          arm_phase f keeps u T.cells T.holding (subst (λ v. Stands (point W D u' b (monitor_at k risen v sp)) n)
           (sym (arm_marked W lost T.contenders T.cells ws i)) st)
 
       -- an arm in any phase

@@ -26,7 +26,7 @@ use Rattle.law.proofs.Machine.PhasesOfSlot.{settled_bus, carries, held, Shape}
 use Rattle.law.proofs.Machine.Arbitration.{at, lead, slots, opened as opens_at, Quiet}
 use Rattle.law.proofs.Machine.BookOfMachine.{Tasks, count, any, nobody, disarm, is_lost, telling, tellings, begins}
 use Rattle.law.proofs.Machine.BookOfMachine.{task_string, leader, wins, outcomes, leader_side, Book, book, feed}
-use Rattle.law.proofs.Machine.BookOfMachine.{book_tells, Spell, spell, watch, falses, marks_too, turned, noted, Loses}
+use Rattle.law.proofs.Machine.BookOfMachine.{book_tells, Spell, spell, monitor_at, falses, marks_too, turned, noted, Loses}
 use Rattle.law.proofs.Machine.BookOfMachine.{Stopped, Spelled, Plays}
 use Rattle.law.proofs.Machine.EventForAll.{rank_top, every, least_below, via_verdicts}
 use Rattle.law.proofs.Machine.TickWhileLow.{low_stays, low_rises, low_ends}
@@ -328,7 +328,7 @@ module _ (G : Game) (Fits : G.script.Task → Type 0) (Rest : G.side.S → Type 
           (claims (opens_with v) (subst (λ ps. Run G (begins W os) (D.begin s) 0 most_letters ps (D.begin s))
           (ap (begins W) a ∙ sym (cursors_claim W cs)) (first_run os s q y)))
           a goes refl (idle_quiet W cs) (ap (λ z. book W D os s (cond z (Some os) None)) v) high_no
-          (ap (λ z. cond z (watch 0 false (falses os) (spell None [])) w) v ∙ ap (λ x. watch 0 false x (spell None []))
+          (ap (λ z. cond z (monitor_at 0 false (falses os) (spell None [])) w) v ∙ ap (λ x. monitor_at 0 false x (spell None []))
           (ap falses a ∙ marked_claim W cs ∙ ap (λ z. marked W never z (claim_all W cs)) (sym a)))
           (inl (omega arith))
       go false v =
@@ -336,7 +336,7 @@ module _ (G : Game) (Fits : G.script.Task → Type 0) (Rest : G.side.S → Type 
           (idle os s w (claim_all W cs) (a ∙ sym (armeds_claim W cs)) (timed_claim W cs t) (holding_claim W cs) q y)
           a (goes ∙ free_stays G (claim_all W cs) s (alive_claim W cs ∙ ap any (sym a) ∙ v)) refl (idle_quiet W cs)
           (ap (λ z. book W D os s (cond z (Some os) None)) v) high_no
-          (ap (λ z. cond z (watch 0 false (falses os) (spell None [])) w) v) (inr v)
+          (ap (λ z. cond z (monitor_at 0 false (falses os) (spell None [])) w) v) (inr v)
 
   tick_claims : (T : OpenTurn) (h : ℕ) → Slots G T 0 most_letters T.cells (D.begin T.rest) →
       Real (at_claim G T) (ticks_of_turn - 1) h
@@ -370,7 +370,7 @@ module _ (G : Game) (Fits : G.script.Task → Type 0) (Rest : G.side.S → Type 
       (each : (x : Symbol) (p : W.Cursor) → is_lost W (j x p) ≡ lo x) {k r : ℕ} {s : D.S} → Slots G T k r T.cells s →
       ((x : Symbol) → lo x ≡ true → f x ≡ false) → ((x : Symbol) → lo x ≡ true → x ≡ lead W (cursors W T.cells) → ⊥) →
       (i : ℕ) → slice_index_or (notes W j T.cells) i quiet ≡ lost →
-      Loses G (Some T.contenders) T.rest (marks G f T) (watch (suc k) true (marks G f T) sp) i
+      Loses G (Some T.contenders) T.rest (marks G f T) (monitor_at (suc k) true (marks G f T) sp) i
   loses_here T f lo j each {k} run new behind i e =
       let a = note_at W j T.cells i e in
       let o : lo (W.symbol a.0) ≡ true = sym (each (W.symbol a.0) a.0) ∙ ap (is_lost W) a.2 in
@@ -418,7 +418,7 @@ module _ (G : Game) (Fits : G.script.Task → Type 0) (Rest : G.side.S → Type 
           (rising_verdicts W e o T.cells))
           (silent (Rise o) ks (rose T k r s o (ticks_of_letter * r - ticks_of_low) refl (omega arith) run) refl
           (rise_no o)
-          (ap (λ x. watch (suc k) true x (spell (Some o) (text G T k)))
+          (ap (λ x. monitor_at (suc k) true x (spell (Some o) (text G T k)))
           (marked_more W never (early_lost o) (early W o) (early_is W o) T.contenders T.cells T.within))
           (tells_none W (early W o) (early_mute W o) T.cells ∙ ap nobody (sym T.armed_as))
           (loses_here T never (early_lost o) (early W o) (early_is W o) run (λ x e. refl)
@@ -454,7 +454,7 @@ module _ (G : Game) (Fits : G.script.Task → Type 0) (Rest : G.side.S → Type 
           (low (advance_turn T b) (suc k) r (taken D c s) d (asked c h) 0 (ticks_of_letter * r) (asked_to c h hh)
           (omega arith) (omega arith) run) T.armed_as
           (settled_falls G d c T.cells s e h T.timed j x) refl (settled_fall_quiet W c e T.cells) refl fall_no
-          (ap₂ (λ x y. watch (suc (suc k)) false x (spell None y)) (sym (marked_advance W b T.contenders T.cells)) m)
+          (ap₂ (λ x y. monitor_at (suc (suc k)) false x (spell None y)) (sym (marked_advance W b T.contenders T.cells)) m)
           (inl (omega arith))
 
   none_at_stop : (x : Symbol) → late_lost 1 x ≡ false
@@ -479,7 +479,7 @@ module _ (G : Game) (Fits : G.script.Task → Type 0) (Rest : G.side.S → Type 
     loses_late : {sp : Spell} (b : Bool) (j : ℕ) → least W T.cells ≡ j → (j ≡ 2 → b ≡ true) → (i : ℕ) →
         slice_index_or (notes W (late W j) T.cells) i quiet ≡ lost →
         Loses G (Some T.contenders) T.rest (marks G (early_lost b) T)
-        (watch (suc k) true (marks G (early_lost b) T) sp) i
+        (monitor_at (suc k) true (marks G (early_lost b) T) sp) i
     loses_late b j e again =
         loses_here T (early_lost b) (late_lost j) (late W j) (late_is W j) run (λ x a. late_new j x b again a)
         (λ x a p. late_behind j x a (ap rank p ∙ led_by j e))
@@ -508,7 +508,7 @@ module _ (G : Game) (Fits : G.script.Task → Type 0) (Rest : G.side.S → Type 
         (ap (λ x. x.side) run.runs)
         (subst (λ x. Slots G U (suc k) r (advance W x U.cells) (D.bit s x)) c
         (run_bit G T.cells run T.living j e j1 j2))) refl high_no
-        (ap (λ x. watch (suc k) true x (spell (Some b) (text G T k))) (marks_late b j ev))
+        (ap (λ x. monitor_at (suc k) true x (spell (Some b) (text G T k))) (marks_late b j ev))
         (tells_none W (late W j) (late_mute W j j1) T.cells ∙ ap nobody (sym T.armed_as))
         (loses_late b j e (λ p. absurd (j2 p))) (inl (omega arith))))
       where
@@ -529,7 +529,7 @@ module _ (G : Game) (Fits : G.script.Task → Type 0) (Rest : G.side.S → Type 
         (ap (λ x. not (x || D.pulls (D.begin s))) (holds_restart W T.cells e)) (omega arith) (omega arith)
         (append-nil (text G T (suc k))) (omega arith) (ap (λ x. x.side) again.runs)
         (subst (λ x. Slots G U (suc k) r (advance W x U.cells) (D.begin s)) c again)) refl start_no
-        (ap₂ (λ x y. watch (suc k) true x (spell None y)) (marks_late true 2 ev) spells_on)
+        (ap₂ (λ x y. monitor_at (suc k) true x (spell None y)) (marks_late true 2 ev) spells_on)
         (tells_none W (late W 2) (late_mute W 2 (omega arith)) T.cells ∙ ap nobody (sym T.armed_as))
         (loses_late true 2 e (λ p. refl)) (inl (omega arith)))
       where
