@@ -1,5 +1,5 @@
 -- The lines of a tick, where d is its number in digits: one for each mark.
-use Rattle.std.specs.Prelude.{ℕ, suc, ◌+◌, ◌*◌, Bool, true, false, if◌then◌else◌, List, [], ◌∷◌, ◌++◌, codes}
+use Rattle.std.specs.Prelude.{ℕ, suc, ◌+◌, ◌*◌, Bool, if◌then◌else◌, List, [], ◌∷◌, ◌++◌, codes}
 use Rattle.std.specs.List.{flat_map}
 use Rattle.law.specs.Limits.{most_masters}
 use Rattle.master.specs.Mark.{is_told, is_lost, is_quiet}
