@@ -1,5 +1,7 @@
 -- A run counted tick by tick.
-use Rattle.std.proofs.Common.{◌≡◌, ℕ, zero, suc, ◌+◌, ◌-◌, ◌<◌, ◌≤◌, true, false, cond, ltb, ◌⊎◌, inl, inr, List, [], ◌∷◌, length, replicate, Ok, Err, sym, refl, ap, ◌∙◌, subst, zero-add, add-one, arith, le-ltb, lt-ltb, is_some, Option}
+use Rattle.std.proofs.Common.{◌≡◌, ℕ, zero, suc, ◌+◌, ◌-◌, ◌<◌, ◌≤◌, true, false, cond, ltb, ◌⊎◌, inl, inr, List, []}
+use Rattle.std.proofs.Common.{◌∷◌, length, replicate, Ok, Err, sym, refl, ap, ◌∙◌, subst, zero-add, add-one, arith}
+use Rattle.std.proofs.Common.{le-ltb, lt-ltb, is_some, Option}
 use Rattle.std.proofs.lemmas.List.Sums.{sum_by-cons}
 use Rattle.std.proofs.lemmas.List.Folds.{sum_by-replicate}
 use Rattle.transfer.specs.Outcome.{OutcomeModel}
@@ -15,7 +17,8 @@ use Rattle.master.specs.MasterState.{VerdictModel, quiet, lost, told, master_ste
 use Rattle.master.specs.Script.{transfers}
 use Rattle.exchange.specs.Bus.{TickAsked, RunTicksAsked, RunAsked}
 use Rattle.law.specs.Limits.{most_ticks}
-use Rattle.law.specs.RunModel.{some_count, told_count, Running, run_start, run_after_tick, run_after_ticks, RunTicksAnswered, RunAnswered, load, run_at}
+use Rattle.law.specs.RunModel.{some_count, told_count, Running, run_start, run_after_tick, run_after_ticks}
+use Rattle.law.specs.RunModel.{RunTicksAnswered, RunAnswered, load, run_at}
 use Rattle.master.specs.Mark.{is_told}
 
 -- one master more, with its mark and the outcome that its host is told

@@ -4,7 +4,8 @@ ghost use Rattle.host.specs.Host.{HostBehaviour};
 ghost use Rattle.transfer.specs.Refusal.{answer};
 ghost use Rattle.law.specs.Bank.{any_true, Bank, bank_map, bank_list};
 ghost use Rattle.law.specs.BusModel.{all_pulls, arm_master_at, marks_over, ClocksInRange};
-ghost use Rattle.master.specs.Master.{HostedMaster, SameHost, hosted_pulls, hosted_is_armed, reset_hosted_master, hosted_step, hosted_mark, hosted_master};
+ghost use Rattle.master.specs.Master.{HostedMaster, SameHost, hosted_pulls, hosted_is_armed, reset_hosted_master};
+ghost use Rattle.master.specs.Master.{hosted_step, hosted_mark, hosted_master};
 ghost use Rattle.std.proofs.Common.{rules};
 
 use crate::end::End;

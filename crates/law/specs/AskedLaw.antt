@@ -1,5 +1,7 @@
 -- What ports asked of their devices in a turn, and what that has to do with strings and outcomes.
-use Rattle.std.specs.Prelude.{◌≡◌, ℕ, zero, suc, ◌+◌, ◌*◌, ◌<◌, ◌≤◌, true, false, if◌then◌else◌, ◌&&◌, ◌⊎◌, ◌≢◌, List, [], ◌∷◌, ◌++◌, map, length, take as first, is_some, Some, None, Option, nat_lt, slice_get, slice_index, slice_index_or}
+use Rattle.std.specs.Prelude.{◌≡◌, ℕ, zero, suc, ◌+◌, ◌*◌, ◌<◌, ◌≤◌, true, false, if◌then◌else◌, ◌&&◌, ◌⊎◌, ◌≢◌, List}
+use Rattle.std.specs.Prelude.{[], ◌∷◌, ◌++◌, map, length, take as first, is_some, Some, None, Option, nat_lt, slice_get}
+use Rattle.std.specs.Prelude.{slice_index, slice_index_or}
 use Rattle.std.specs.Option.{option_to_list}
 use Rattle.transfer.specs.declared.leg.Direction.TheVariants.{Write, Read}
 use Rattle.transfer.specs.declared.outcome.OutcomeKind.TheVariants.{Done}

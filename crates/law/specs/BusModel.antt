@@ -16,7 +16,8 @@ use Rattle.wire.specs.declared.wire.Wire.{Wire}
 use Rattle.law.specs.Bank.{Bank, bank_map, bank_list, BankAll, bank_update, any_true}
 use Rattle.law.specs.Limits.{most_masters}
 use Rattle.transfer.specs.Limits.{most_count}
-use Rattle.master.specs.Master.{HostedMaster, hosted_step, hosted_mark, hosted_told, hosted_pulls, hosted_is_armed, reset_hosted_master, hosted_arm}
+use Rattle.master.specs.Master.{HostedMaster, hosted_step, hosted_mark, hosted_told, hosted_pulls, hosted_is_armed}
+use Rattle.master.specs.Master.{reset_hosted_master, hosted_arm}
 use Rattle.port.specs.Port.{MayAnswer, PortModel, port_pulls, port_step, reset_port}
 use Rattle.wire.specs.Pulls.{no_pulls, pulls_or, levels_of}
 use Rattle.wire.specs.Event.{event_between}

@@ -1,5 +1,6 @@
 -- What holds of the strings and of the bytes of transfers carried alone.
-use Rattle.std.specs.Prelude.{◌≡◌, ℕ, zero, suc, ◌+◌, ◌*◌, ◌<◌, ◌≤◌, true, false, ◌⊎◌, ◌↔◌, List, [], ◌∷◌, ◌++◌, length, take, Some, None, Option, ◌≢◌, nat_lt, slice_index, slice_index_or}
+use Rattle.std.specs.Prelude.{◌≡◌, ℕ, zero, suc, ◌+◌, ◌*◌, ◌<◌, ◌≤◌, true, false, ◌⊎◌, ◌↔◌, List, [], ◌∷◌, ◌++◌, length}
+use Rattle.std.specs.Prelude.{take, Some, None, Option, ◌≢◌, nat_lt, slice_index, slice_index_or}
 use Rattle.std.specs.List.{fold}
 use Rattle.transfer.specs.declared.leg.Direction.TheVariants.{Write, Read}
 use Rattle.transfer.specs.declared.outcome.OutcomeKind.TheVariants.{Done}
@@ -7,7 +8,8 @@ use Rattle.transfer.specs.Transfer.{TransferModel}
 use Rattle.transfer.specs.Leg.{write_leg, read_leg}
 use Rattle.device.specs.Device.{Behaviour}
 use Rattle.law.specs.Bank.{Bank, bank_map, bank_list, BankAll}
-use Rattle.law.specs.TransferResult.{AddressedDevice, DeviceInLeg, device_after_call, device_after_put, device_after_take, byte_given_by, joint_byte, any_in, leg_result, transfer_result}
+use Rattle.law.specs.TransferResult.{AddressedDevice, DeviceInLeg, device_after_call, device_after_put}
+use Rattle.law.specs.TransferResult.{device_after_take, byte_given_by, joint_byte, any_in, leg_result, transfer_result}
 use Rattle.law.specs.Legal.{IsLegal}
 use Rattle.law.specs.Limits.{bits_of_byte, letters_of_byte, most_letters}
 use Rattle.wire.specs.ByteProgress.{bit_at}

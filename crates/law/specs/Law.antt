@@ -1,5 +1,6 @@
 -- The law over every use of a bus, in the words of turns, strings and the turn book.
-use Rattle.std.specs.Prelude.{◌≡◌, ℕ, suc, ◌+◌, ◌<◌, ◌≤◌, Bool, true, false, not, ◌↔◌, List, map, replicate, length, is_some, Some, None, Ok, slice_index_or}
+use Rattle.std.specs.Prelude.{◌≡◌, ℕ, suc, ◌+◌, ◌<◌, ◌≤◌, Bool, true, false, not, ◌↔◌, List, map, replicate, length}
+use Rattle.std.specs.Prelude.{is_some, Some, None, Ok, slice_index_or}
 use Rattle.std.specs.List.{count_by}
 use Rattle.device.specs.Device.{Behaviour}
 use Rattle.host.specs.Host.{HostBehaviour}
@@ -16,7 +17,8 @@ use Rattle.law.specs.Limits.{most_masters, most_ticks, most_ticks_of_turn}
 use Rattle.law.specs.RunModel.{RunModel, run_at}
 use Rattle.master.specs.Mark.{is_told}
 use Rattle.law.specs.TransferResult.{TransferResult}
-use Rattle.law.specs.Use.{Call, runs, Use, event_at, marks_of, monitor_with_event, use_after_call, use_after, addressed_device, new_use, armed_now, ticks_of_call, ticks_of, in_ticks}
+use Rattle.law.specs.Use.{Call, runs, Use, event_at, marks_of, monitor_with_event, use_after_call, use_after}
+use Rattle.law.specs.Use.{addressed_device, new_use, armed_now, ticks_of_call, ticks_of, in_ticks}
 
 abbrev pub true_count : List Bool → ℕ
 true_count vs = count_by (λ v. v) vs

@@ -1,7 +1,8 @@
 // What one tick shows of the wire and of the masters, and its lines: its number and a mark on each.
 ghost use Rattle.std.specs.Prelude.{◌≡◌, ◌+◌, ◌*◌, ◌≤◌, ◌++◌, Some, length, decimal};
 ghost use Rattle.law.specs.Limits.{most_masters};
-ghost use Rattle.listing.specs.Marks.{most_digits, wire_room, loser_room, stop_room, wire_line, loser_lines, stop_line, is_mark, numbers, numbers_text, lines_of};
+ghost use Rattle.listing.specs.Marks.{most_digits, wire_room, loser_room, stop_room, wire_line, loser_lines, stop_line};
+ghost use Rattle.listing.specs.Marks.{is_mark, numbers, numbers_text, lines_of};
 
 use law::MOST_MASTERS;
 use master::Mark;

@@ -58,7 +58,8 @@ impl<H: Host> Master<H> {
 impl<H: Host> Master<H> {
     ghost use Rattle.std.specs.Prelude.{◌≡◌};
     ghost use Rattle.transfer.specs.Refusal.{answer};
-    ghost use Rattle.master.specs.Master.{SameHost, hosted_pulls, hosted_is_armed, reset_hosted_master, hosted_arm, hosted_step, hosted_mark, hosted_master};
+    ghost use Rattle.master.specs.Master.{SameHost, hosted_pulls, hosted_is_armed, reset_hosted_master, hosted_arm};
+    ghost use Rattle.master.specs.Master.{hosted_step, hosted_mark, hosted_master};
 
     /// Which lines it pulls low in the tick to come.
     pub fn pulls(&self) -> Pulls

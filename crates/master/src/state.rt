@@ -39,7 +39,8 @@ pub struct MasterState {
 
 impl MasterState {
     ghost use Rattle.std.specs.Prelude.{◌≡◌, true};
-    ghost use Rattle.master.specs.MasterState.{master_model, new_master, master_step, verdict_model, contending_step, losing_step, with_stage, quiet, told};
+    ghost use Rattle.master.specs.MasterState.{master_model, new_master, master_step, verdict_model, contending_step};
+    ghost use Rattle.master.specs.MasterState.{losing_step, with_stage, quiet, told};
     ghost use Rattle.master.specs.Symbol.{pulls_sda};
     ghost use Rattle.master.specs.Script.{transfers};
     ghost use Rattle.transfer.specs.Outcome.{outcome_model};

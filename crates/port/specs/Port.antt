@@ -1,5 +1,6 @@
 -- A port after an event, and what it asks its device: select, put, take, finish and hold.
-use Rattle.std.specs.Prelude.{◌≡◌, ℕ, suc, ◌<◌, ◌-◌, ◌/◌, ◌%◌, Bool, true, false, if◌then◌else◌, not, ◌&&◌, Some, None, Option, ◌==◌, nat_lt, List, [], ◌∷◌}
+use Rattle.std.specs.Prelude.{◌≡◌, ℕ, suc, ◌<◌, ◌-◌, ◌/◌, ◌%◌, Bool, true, false, if◌then◌else◌, not, ◌&&◌, Some, None}
+use Rattle.std.specs.Prelude.{Option, ◌==◌, nat_lt, List, [], ◌∷◌}
 use Rattle.transfer.specs.declared.leg.Direction.{Direction}
 use Rattle.transfer.specs.declared.leg.Direction.TheVariants.{Write, Read}
 use Rattle.transfer.specs.Address.{answers_to}

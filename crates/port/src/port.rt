@@ -148,7 +148,9 @@ impl<D: Device> Port<D> {
 // What it makes of the bits that count, and what it asks its device.
 impl<D: Device> Port<D> {
     ghost use Rattle.std.specs.Prelude.{◌≡◌, true, false, not};
-    ghost use Rattle.port.specs.Port.{ForSomeHold, port_model, port_after_bit, port_after_read_acknowledge, port_after_finish, finish_steps, steps_at_bit, take_steps, asks_hold_at_bit, AskedBy, HoldAsked};
+    ghost use Rattle.port.specs.Port.{ForSomeHold, port_model, port_after_bit, port_after_read_acknowledge};
+    ghost use Rattle.port.specs.Port.{port_after_finish, finish_steps, steps_at_bit, take_steps, asks_hold_at_bit};
+    ghost use Rattle.port.specs.Port.{AskedBy, HoldAsked};
     ghost use Rattle.port.specs.declared.port.Mode.TheVariants.{Addressing, Writing, Reading};
 
     // At a start or a stop a device that said yes to select is finished.

@@ -4,7 +4,8 @@ use Rattle.device.specs.Device.{Behaviour}
 use Rattle.port.specs.declared.port.Mode.{Mode}
 use Rattle.port.specs.declared.port.Mode.TheVariants.{Out, Addressing, Writing, Acknowledging, Reading}
 use Rattle.transfer.specs.Address.{answers_to}
-use Rattle.port.specs.Port.{PortModel, with_mode, port_after_select, port_after_address, port_after_put, port_after_read_acknowledge, port_after_bit, port_after_event}
+use Rattle.port.specs.Port.{PortModel, with_mode, port_after_select, port_after_address, port_after_put}
+use Rattle.port.specs.Port.{port_after_read_acknowledge, port_after_bit, port_after_event}
 use Rattle.transfer.specs.declared.leg.Direction.{Direction}
 use Rattle.transfer.specs.declared.leg.Direction.TheVariants.{Write, Read}
 use Rattle.transfer.specs.Leg.{direction_of}

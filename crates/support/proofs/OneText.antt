@@ -1,5 +1,6 @@
 -- A run over devices that may give one answer to hold at most has one text.
-use Rattle.std.proofs.Common.{◌≡◌, ℕ, zero, suc, ◌<◌, ◌≤◌, ◌++◌, ◌⊎◌, Bool, true, false, List, [], ◌∷◌, Option, refl, sym, ap, ap₂, subst, ◌∙◌, ⊎_elim, append-nil, append_assoc, arith}
+use Rattle.std.proofs.Common.{◌≡◌, ℕ, zero, suc, ◌<◌, ◌≤◌, ◌++◌, ◌⊎◌, Bool, true, false, List, [], ◌∷◌, Option, refl}
+use Rattle.std.proofs.Common.{sym, ap, ap₂, subst, ◌∙◌, ⊎_elim, append-nil, append_assoc, arith}
 use Rattle.std.proofs.lemmas.Bool.{cases_lt, cases_eq}
 use Rattle.std.specs.Fmt.{WritesInCalls}
 use Rattle.std.specs.declared.io.Error.{Error}
@@ -12,7 +13,8 @@ use Rattle.support.specs.ArmAll.{all_armed}
 use Rattle.port.specs.declared.port.Mode.{Mode}
 use Rattle.port.specs.Port.{asks_hold_at_event, asks_hold_at_bit, MayAnswer, PortModel, port_step, port_after_event, port_after_bit}
 use Rattle.support.specs.Output.{PutsPart}
-use Rattle.support.specs.PrintedRun.{OneHold, Listened, next_lines, listened_after_tick, TicksLeadTo, IsRun, IsOnlyRun, PrintsAll, PrintsPart}
+use Rattle.support.specs.PrintedRun.{OneHold, Listened, next_lines, listened_after_tick, TicksLeadTo, IsRun, IsOnlyRun}
+use Rattle.support.specs.PrintedRun.{PrintsAll, PrintsPart}
 use Rattle.wire.specs.declared.event.Event.{Event}
 use Rattle.wire.specs.declared.wire.Signal.{Signal}
 use Rattle.wire.specs.Wire.{signal}

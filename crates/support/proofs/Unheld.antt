@@ -1,5 +1,6 @@
 -- A run over devices that never hold prints one text.
-use Rattle.std.proofs.Common.{◌≡◌, ℕ, zero, suc, ◌+◌, ◌-◌, ◌≤◌, ◌++◌, ◌⊎◌, true, false, List, [], refl, sym, ap, subst, ◌∙◌, ⊎_elim, append-nil, append_assoc, arith}
+use Rattle.std.proofs.Common.{◌≡◌, ℕ, zero, suc, ◌+◌, ◌-◌, ◌≤◌, ◌++◌, ◌⊎◌, true, false, List, [], refl, sym, ap, subst}
+use Rattle.std.proofs.Common.{◌∙◌, ⊎_elim, append-nil, append_assoc, arith}
 use Rattle.std.specs.Fmt.{WritesInCalls}
 use Rattle.std.specs.declared.io.Error.{Error}
 use Rattle.device.specs.Device.{Behaviour}
@@ -9,7 +10,8 @@ use Rattle.law.specs.BusModel.{BusModel, HoldAnswers, NeverHold, Answered, no_ho
 use Rattle.listing.specs.Listing.{listing_step}
 use Rattle.support.specs.ArmAll.{all_armed}
 use Rattle.support.specs.Output.{PutsPart}
-use Rattle.support.specs.PrintedRun.{Listened, listened_start, next_lines, listened_after_tick, TicksLeadTo, unheld_lines, PrintsAll, PrintsPart}
+use Rattle.support.specs.PrintedRun.{Listened, listened_start, next_lines, listened_after_tick, TicksLeadTo}
+use Rattle.support.specs.PrintedRun.{unheld_lines, PrintsAll, PrintsPart}
 
 module _ (hs : List HostBehaviour) (ds : List Behaviour) (never : NeverHold ds) (masters : ℕ) where
   ticked_unheld : (r : Listened hs ds) (h : HoldAnswers ds) → Answered hs ds r.bus h →
@@ -41,11 +43,13 @@ module _ (hs : List HostBehaviour) (ds : List Behaviour) (never : NeverHold ds) 
   unfolding unheld_lines
   none_left s = refl
 
-  over_here : (n k m : ℕ) (u : BusModel hs ds) (text : List ℕ) (s : Listened hs ds) → n + k ≡ m → TicksLeadTo hs ds masters n u text s →
+  over_here : (n k m : ℕ) (u : BusModel hs ds) (text : List ℕ) (s : Listened hs ds) → n + k ≡ m →
+      TicksLeadTo hs ds masters n u text s →
       unheld_lines hs ds masters k s ≡ [] → text ≡ unheld_lines hs ds masters m (listened_start hs ds masters u)
   over_here n k m u text s e ran none = sym (append-nil text) ∙ ap (λ x. text ++ x) (sym none) ∙ all n k m u text s e ran
 
-  pub run_unheld : (n most : ℕ) (u : BusModel hs ds) (text : List ℕ) (s : Listened hs ds) → n ≤ most → TicksLeadTo hs ds masters n u text s →
+  pub run_unheld : (n most : ℕ) (u : BusModel hs ds) (text : List ℕ) (s : Listened hs ds) → n ≤ most →
+      TicksLeadTo hs ds masters n u text s →
       (n ≡ most) ⊎ (is_at_rest hs ds s.bus ≡ true) → text ≡ unheld_lines hs ds masters most (listened_start hs ds masters u)
   run_unheld n most u text s bounded ran over =
       ⊎_elim

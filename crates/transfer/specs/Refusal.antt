@@ -1,7 +1,9 @@
 -- The number and the message of each refusal, and the answer of a call that may refuse.
 use Rattle.std.specs.Prelude.{ℕ, List, Ok, Err, Result, codes}
 use Rattle.transfer.specs.declared.refusal.Refusal.{Refusal}
-use Rattle.transfer.specs.declared.refusal.Refusal.TheVariants.{AddressOutOfRange, ClockOutOfRange, TwoLegsAlready, LengthOutOfRange, NoSuchMaster, ArmedAlready, NothingWanted, TooManyTicks}
+use Rattle.transfer.specs.declared.refusal.Refusal.TheVariants.{AddressOutOfRange, ClockOutOfRange, TwoLegsAlready}
+use Rattle.transfer.specs.declared.refusal.Refusal.TheVariants.{LengthOutOfRange, NoSuchMaster, ArmedAlready}
+use Rattle.transfer.specs.declared.refusal.Refusal.TheVariants.{NothingWanted, TooManyTicks}
 
 abbrev pub number : Refusal → ℕ
 number AddressOutOfRange = 1

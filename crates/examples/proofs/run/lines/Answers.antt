@@ -21,7 +21,8 @@ returns c =
     let clocks = c.all_clocks-clocks.result in
     let all = c.all_clocks-clocks.ensures in
     let at_80 = ok_same (unwrapped (λ a. a.number) _ _ _ c.new.ensures c.unwrap-registers.ensures) in
-    let three = at (λ n. checked_write n (3 ∷ [])) _ _ _ _ (unwrapped transfer_model _ _ _ c.write.ensures c.unwrap-three.ensures) at_80 refl in
+    let three = at (λ n. checked_write n (3 ∷ [])) _ _ _ _
+    (unwrapped transfer_model _ _ _ c.write.ensures c.unwrap-three.ensures) at_80 refl in
     let zero = at (λ n. checked_write n (3 ∷ 0 ∷ [])) _ _ _ _
     (unwrapped transfer_model _ _ _ c.write-2.ensures c.unwrap-three_and_zero.ensures) at_80 refl in
     let (then_made, high_made, made, exhibits) = c.restart_over_one.ensures in

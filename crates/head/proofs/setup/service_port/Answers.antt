@@ -11,7 +11,8 @@ returns c =
     let at_34 = ok_same (unwrapped (λ a. a.number) _ _ _ c.new-3.ensures c.unwrap-2.ensures) in
     let write = at (λ n. checked_write n (3 ∷ 127 ∷ [])) _ _ _ _
     (unwrapped transfer_model _ _ _ c.write.ensures c.unwrap-write.ensures) at_80 refl in
-    let probe = at (λ n. checked_write n []) _ _ _ _ (unwrapped transfer_model _ _ _ c.write-2.ensures c.unwrap-probe.ensures) at_34 refl in (
+    let probe = at (λ n. checked_write n []) _ _ _ _
+    (unwrapped transfer_model _ _ _ c.write-2.ensures c.unwrap-probe.ensures) at_34 refl in (
       _,
       (c.unwrap-write.result, c.unwrap-probe.result, write, probe, refl),
       serves list_host _ _ _ _ _ c.new-4.ensures.made
