@@ -1,7 +1,7 @@
-pub mod Steps
-pub mod Behaviours
-pub mod RegisterFiles
-pub mod EventQueues
-pub mod Selections
-pub mod BusyLayers
-pub mod SlowLayers
+pub mod Limits
+pub mod Device
+pub mod RegisterFile
+pub mod EventQueue
+pub mod Selection
+pub mod Busy
+pub mod Slow

@@ -1,12 +1,12 @@
 // A layer that is busy for some selects after a selection that wrote.
-ghost use Rattle.std.specs.Prelude.{◌≡◌};
-ghost use Rattle.device.specs.BusyLayers.{busied, new_busy, busy_over, BusyWent};
-
 use crate::device::Device;
 use crate::selection::Selection;
 use transfer::Direction;
 
-#[derive(Drop)]
+/// A device that, after a selection that wrote, answers no to the next selects, without asking the
+/// device below. All else goes to that device. A selection lasts from a select that got yes to the
+/// next finish, and it wrote if a put got yes in it.
+#[derive(Drop, Debug)]
 pub struct Busy<D> {
     // how many selects it then refuses
     number: u8,
@@ -17,8 +17,13 @@ pub struct Busy<D> {
 }
 
 impl<D: Device> Busy<D> {
+    ghost use Rattle.std.specs.Prelude.{◌≡◌};
+    ghost use Rattle.device.specs.Busy.{busy_model, new_busy};
+
+    /// In no selection, and with no select to refuse.
     pub fn new(number: u8, device: D) -> Busy<D>
-        ensures made { busied D.Device.behaviour D.Device.means result ≡ new_busy D.Device.behaviour number (D.Device.means device) }
+        ensures made { busy_model D.Device.behaviour D.Device.meaning result
+            ≡ new_busy D.Device.behaviour number (D.Device.meaning device) }
         ensures same { result.device ≡ device }
     {
         Busy {
@@ -31,14 +36,14 @@ impl<D: Device> Busy<D> {
 
     /// How many selects it refuses after a selection that wrote.
     pub fn number(&self) -> u8
-        ensures { result ≡ (busied D.Device.behaviour D.Device.means self.now).number }
+        ensures { result ≡ (busy_model D.Device.behaviour D.Device.meaning self.now).number }
     {
         self.number
     }
 
     /// How many selects it still refuses, from 0 to its number.
     pub fn left(&self) -> u8
-        ensures { result ≡ (busied D.Device.behaviour D.Device.means self.now).left }
+        ensures { result ≡ (busy_model D.Device.behaviour D.Device.meaning self.now).left }
     {
         self.left
     }
@@ -50,7 +55,7 @@ impl<D: Device> Busy<D> {
         &self.device
     }
 
-    // The device below, as it stands.
+    /// The device below, as it stands.
     pub fn into_device(self) -> D
         ensures { result ≡ self.device }
     {
@@ -65,13 +70,15 @@ impl<D: Device> Busy<D> {
 }
 
 impl<D: Device> Device for Busy<D> {
+    ghost use Rattle.device.specs.Busy.{busy_model, busy_over, BusyStepsTo};
+
     ghost behaviour = { busy_over D.Device.behaviour };
 
-    ghost means = { busied D.Device.behaviour D.Device.means };
+    ghost meaning = { busy_model D.Device.behaviour D.Device.meaning };
 
-    ghost went = { BusyWent D.Device.went };
+    ghost steps_to = { BusyStepsTo D.Device.steps_to };
 
-    ghost held = { λ x h z. D.Device.held x.device h z.device };
+    ghost holds_to = { λ x h z. D.Device.holds_to x.device h z.device };
 
     fn select(&mut self, direction: Direction) -> bool {
         if self.left > 0 {

@@ -1,47 +1,56 @@
 // A queue of up to 8 bytes, each read once.
-ghost use Rattle.std.specs.Prelude.{◌≡◌, []};
-ghost use Rattle.fifo.specs.Fifos.{filled};
-ghost use Rattle.transfer.specs.Refusals.{answer};
-ghost use Rattle.device.specs.EventQueues.{queued, event_queue};
-
 use crate::device::Device;
-use fifo::Fifo;
-use transfer::{Direction, Refusal};
+use transfer::{Direction, Fifo, Refusal};
 
+// What an empty queue gives: all bits high, as on a bus where nobody pulls SDA.
+const NO_BYTE: u8 = 0xFF;
+
+/// Up to 8 bytes, which a master reads, the oldest first. Each read removes one. It answers no
+/// select for writing, and one for reading exactly if a byte is left; one read beyond the last gets
+/// 0xFF.
 #[derive(Drop)]
 pub struct EventQueue {
     bytes: Fifo<u8>,
 }
 
 impl EventQueue {
-    // An empty queue.
+    ghost use Rattle.std.specs.Prelude.{◌≡◌, []};
+    ghost use Rattle.transfer.specs.Fifo.{fifo_answer_to_fill};
+    ghost use Rattle.transfer.specs.Refusal.{answer};
+    ghost use Rattle.device.specs.EventQueue.{queue_model};
+
+    /// An empty queue.
     pub fn new() -> EventQueue
-        ensures { queued result ≡ [] }
+        ensures { queue_model result ≡ [] }
     {
         EventQueue {
             bytes: Fifo::new(0),
         }
     }
 
-    // Starts anew with these bytes, the first the oldest. Too many are refused, and change nothing.
+    /// Starts anew with these bytes, the first the oldest. More than 8 are refused, and change
+    /// nothing.
     pub fn fill(&mut self, bytes: &[u8]) -> Result<(), Refusal>
-        ensures { (answer (λ u. u) result, queued self.new) ≡ filled bytes.now (queued self.old) }
+        ensures { (answer (λ u. u) result, queue_model self.new)
+            ≡ fifo_answer_to_fill bytes.now (queue_model self.old) }
     {
         self.bytes.fill(bytes)
     }
 
     /// The bytes that are still to be read, the oldest first.
     pub fn left(&self) -> &[u8]
-        ensures { result.now ≡ queued self.now }
+        ensures { result.now ≡ queue_model self.now }
     {
         self.bytes.left()
     }
 }
 
 impl Device for EventQueue {
+    ghost use Rattle.device.specs.EventQueue.{queue_model, event_queue};
+
     ghost behaviour = { event_queue };
 
-    ghost means = { queued };
+    ghost meaning = { queue_model };
 
     fn select(&mut self, direction: Direction) -> bool {
         direction == Direction::Read && self.bytes.first().is_some()
@@ -52,7 +61,7 @@ impl Device for EventQueue {
     }
 
     fn take(&mut self) -> u8 {
-        let oldest = self.bytes.first().unwrap_or(0xFF);
+        let oldest = self.bytes.first().unwrap_or(NO_BYTE);
         self.bytes.advance();
         oldest
     }

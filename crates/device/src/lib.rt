@@ -1,4 +1,7 @@
-// Devices: what a port carries. A make says by its behaviour what it means, and shows that it keeps to it.
+//! Devices: what a port carries. A register file, an event queue, and two layers over any device.
+//!
+//! Each implementation of [`Device`] says by its behaviour what it means, and is proved to keep to
+//! it. Its `hold` answers in ticks of the bus.
 #![tactic(auto)]
 
 mod busy;

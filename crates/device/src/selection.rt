@@ -1,19 +1,21 @@
 // Where a device is in a selection, which lasts from a select that got yes to the next finish.
-ghost use Rattle.std.specs.Prelude.{◌≡◌};
-ghost use Rattle.device.specs.Selections.{after_select, after_put, is_written};
 
+/// In none, in one, or in one that wrote.
 #[derive(Clone, Copy, PartialEq, Eq, Debug)]
 pub enum Selection {
     Closed,
     Open,
-    // a put got yes in it
+    /// A put got yes in it.
     Written,
 }
 
 impl Selection {
-    // After a select with this answer.
+    ghost use Rattle.std.specs.Prelude.{◌≡◌};
+    ghost use Rattle.device.specs.Selection.{selection_after_select, selection_after_put, is_written};
+
+    // After a select with this answer: inside a selection it opens no other.
     pub(crate) fn after_select(self, yes: bool) -> Selection
-        ensures { result ≡ after_select self yes }
+        ensures { result ≡ selection_after_select self yes }
     {
         match (self, yes) {
             (Selection::Closed, true) => Selection::Open,
@@ -21,9 +23,9 @@ impl Selection {
         }
     }
 
-    // After a put with this answer.
+    // After a put with this answer: outside a selection it does not count.
     pub(crate) fn after_put(self, yes: bool) -> Selection
-        ensures { result ≡ after_put self yes }
+        ensures { result ≡ selection_after_put self yes }
     {
         match (self, yes) {
             (Selection::Open, true) => Selection::Written,

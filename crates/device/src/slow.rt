@@ -1,26 +1,29 @@
 // A layer that holds the clock for at least its own number of ticks.
-ghost use Rattle.std.specs.Prelude.{◌≡◌};
-ghost use Rattle.device.specs.SlowLayers.{slow_over, slowed, SlowWent, SlowHeld};
-
 use crate::device::Device;
 use transfer::Direction;
 
-#[derive(Drop)]
+/// A device that holds the clock for at least `number` ticks, and longer where the device below
+/// does. All else goes to that device.
+#[derive(Drop, Debug)]
 pub struct Slow<D> {
     number: u8,
     device: D,
 }
 
 impl<D: Device> Slow<D> {
+    ghost use Rattle.std.specs.Prelude.{◌≡◌};
+    ghost use Rattle.device.specs.Slow.{slow_model};
+
+    /// Over this device, as it stands.
     pub fn new(number: u8, device: D) -> Slow<D>
         ensures { result ≡ record { number = number; device = device } }
     {
         Slow { number, device }
     }
 
-    /// For how many ticks it holds the clock at least.
+    /// For how many ticks it holds the clock at least, from 0 to 255.
     pub fn number(&self) -> u8
-        ensures { result ≡ (slowed D.Device.behaviour D.Device.means self.now).number }
+        ensures { result ≡ (slow_model D.Device.behaviour D.Device.meaning self.now).number }
     {
         self.number
     }
@@ -32,7 +35,7 @@ impl<D: Device> Slow<D> {
         &self.device
     }
 
-    // The device below, as it stands.
+    /// The device below, as it stands.
     pub fn into_device(self) -> D
         ensures { result ≡ self.device }
     {
@@ -42,13 +45,15 @@ impl<D: Device> Slow<D> {
 }
 
 impl<D: Device> Device for Slow<D> {
+    ghost use Rattle.device.specs.Slow.{slow_over, slow_model, SlowStepsTo, SlowHoldsTo};
+
     ghost behaviour = { slow_over D.Device.behaviour };
 
-    ghost means = { slowed D.Device.behaviour D.Device.means };
+    ghost meaning = { slow_model D.Device.behaviour D.Device.meaning };
 
-    ghost went = { SlowWent D.Device.went };
+    ghost steps_to = { SlowStepsTo D.Device.steps_to };
 
-    ghost held = { SlowHeld D.Device.held };
+    ghost holds_to = { SlowHoldsTo D.Device.holds_to };
 
     fn select(&mut self, direction: Direction) -> bool {
         self.device.select(direction)

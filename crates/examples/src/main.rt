@@ -1,4 +1,4 @@
-// Arbitration by example: two masters at odds, under several clock pairs, and who was told at the first stop.
+//! Arbitration by example: two masters at odds, under several clock pairs, and who was told at the first stop.
 #![tactic(auto)]
 
 mod run;

@@ -1,28 +1,44 @@
 // Ticks each example to its first stop, and prints who was told there.
 ghost use Rattle.std.specs.Prelude.{◌≡◌, ℕ, ◌+◌, ◌≤◌, ◌++◌, List, length};
 ghost use Rattle.std.specs.List.{flat_map};
-ghost use Rattle.exchange.specs.Parts.{bus_model};
-ghost use Rattle.printing.specs.Outputs.{Puts};
-ghost use Rattle.examples.specs.Runs.{first_stop, told_at, clocks_text, example_line, Examples, Joined};
+ghost use Rattle.exchange.specs.Bus.{bus_model};
+ghost use Rattle.support.specs.Output.{Puts};
+ghost use Rattle.examples.specs.Run.{first_stop, told_at, clocks_text, example_line, Examples, Joined};
 
 use crate::setup::{all_clocks, queue_bus};
 use exchange::{End, Event, Mark, Tick};
 use host::ListHost;
 use law::restart_over_one;
 use listing::push_numbers;
-use parts::{Clocks, PairBus, arm_all, list_of, pair_bus, ticks_of_turns};
-use printing::Output;
 use std::io;
+use support::{Clocks, Output, PairBus, arm_all, list_of, pair_bus, ticks_of_turns};
 use text::{ArrayString, Decimal};
 use transfer::{Address, Transfer};
 
 const REGISTERS: u32 = 0x50;
 
-// Room for the longest line of an example, whose name has 20 bytes at most.
-const LINE: usize = 139;
+const EXAMPLES: usize = 6;
 
-// Room for six examples of four lines, and for the line of the two queues.
-const ALL: usize = 3452;
+// Each under so many choices of clocks.
+const CHOICES: usize = 4;
+
+// Room for the name of an example, for the counts of two clocks, and for the numbers of all masters.
+const NAME: usize = 20;
+
+const CLOCKS: usize = 87;
+
+const TOLD: usize = 16;
+
+// Room for a line of an example: these, and ", clocks ", ": told" and its end.
+const LINE: usize = NAME + 9 + CLOCKS + 6 + TOLD + 1;
+
+// Room for the lines of an example.
+const EXAMPLE: usize = CHOICES * LINE;
+
+// Room for the line of the two queues, with the longest outcome.
+const JOINED: usize = 116;
+
+const ALL: usize = EXAMPLES * EXAMPLE + JOINED;
 
 // The first stop once both masters are armed.
 fn first_stop(bus: &mut PairBus<ListHost>) -> Option<Tick>
@@ -39,9 +55,9 @@ fn first_stop(bus: &mut PairBus<ListHost>) -> Option<Tick>
 }
 
 fn push_clocks<const N: usize>(text: &mut ArrayString<N>, clocks: Clocks)
-    requires { length text.old.bytes + 87 ≤ N }
+    requires { length text.old.bytes + CLOCKS ≤ N }
     ensures text { text.new.bytes ≡ text.old.bytes ++ clocks_text clocks }
-    ensures short { length text.new.bytes ≤ length text.old.bytes + 87 }
+    ensures short { length text.new.bytes ≤ length text.old.bytes + CLOCKS }
 {
     let Clocks { first, second } = clocks;
     Decimal(first.low().into()).push_to(text);
@@ -54,9 +70,9 @@ fn push_clocks<const N: usize>(text: &mut ArrayString<N>, clocks: Clocks)
 }
 
 fn push_told<const N: usize>(text: &mut ArrayString<N>, stop: Option<Tick>)
-    requires { length text.old.bytes + 16 ≤ N }
+    requires { length text.old.bytes + TOLD ≤ N }
     ensures text { text.new.bytes ≡ text.old.bytes ++ told_at stop }
-    ensures short { length text.new.bytes ≤ length text.old.bytes + 16 }
+    ensures short { length text.new.bytes ≤ length text.old.bytes + TOLD }
 {
     if let Some(stop) = stop {
         push_numbers(text, &stop.marks, Mark::Told, " ", "");
@@ -65,7 +81,7 @@ fn push_told<const N: usize>(text: &mut ArrayString<N>, stop: Option<Tick>)
 
 // Each has a bus of its own, so that no run sees what another left behind.
 fn example_line(name: &str, one: Transfer, other: Transfer, clocks: Clocks) -> ArrayString<LINE>
-    requires { length name.now ≤ 20 }
+    requires { length name.now ≤ NAME }
     ensures { result.bytes ≡ example_line name.now one other clocks }
 {
     let address = Address::new(REGISTERS).unwrap();
@@ -85,15 +101,16 @@ fn example_line(name: &str, one: Transfer, other: Transfer, clocks: Clocks) -> A
 // One line for each choice of clocks.
 fn push_example<const N: usize>(
     text: &mut ArrayString<N>,
-    clocks: &[Clocks; 4],
+    clocks: &[Clocks; CHOICES],
     name: &str,
     one: Transfer,
     other: Transfer,
 )
-    requires room { length text.old.bytes + 556 ≤ N }
-    requires short_name { length name.now ≤ 20 }
-    ensures text { text.new.bytes ≡ text.old.bytes ++ flat_map (example_line name.now one other) clocks.now }
-    ensures short { length text.new.bytes ≤ length text.old.bytes + 556 }
+    requires room { length text.old.bytes + EXAMPLE ≤ N }
+    requires short_name { length name.now ≤ NAME }
+    ensures text { text.new.bytes ≡
+        text.old.bytes ++ flat_map (example_line name.now one other) clocks.now }
+    ensures short { length text.new.bytes ≤ length text.old.bytes + EXAMPLE }
 {
     for &choice in clocks {
         text.push_str(example_line(name, one, other, choice).as_str());
@@ -102,7 +119,7 @@ fn push_example<const N: usize>(
 
 // What is read of two queues at one address.
 fn push_joined<const N: usize>(text: &mut ArrayString<N>)
-    requires { length text.old.bytes + 116 ≤ N }
+    requires { length text.old.bytes + JOINED ≤ N }
     ensures { (joined : List ℕ) × Joined joined × (text.new.bytes ≡ text.old.bytes ++ joined) }
 {
     let mut bus = queue_bus();
@@ -117,7 +134,8 @@ fn push_joined<const N: usize>(text: &mut ArrayString<N>)
 }
 
 fn lines() -> ArrayString<ALL>
-    ensures { (text : List ℕ) × (joined : List ℕ) × Examples text × Joined joined × (result.bytes ≡ text ++ joined) }
+    ensures { (text : List ℕ) × (joined : List ℕ) × Examples text × Joined joined ×
+        (result.bytes ≡ text ++ joined) }
 {
     let clocks = all_clocks();
     let registers = Address::new(REGISTERS).unwrap();
@@ -156,8 +174,10 @@ fn lines() -> ArrayString<ALL>
     text
 }
 
+/// Prints a line for each example and choice of clocks, and what the two queues give.
 pub fn run<O: Output>(out: &mut O) -> io::Result<()>
-    ensures { (text : List ℕ) × (joined : List ℕ) × Examples text × Joined joined × Puts O.Output.takes O.Output.fails (text ++ joined) out.old result out.new }
+    ensures { (text : List ℕ) × (joined : List ℕ) × Examples text × Joined joined ×
+        Puts O.Output.takes O.Output.fails (text ++ joined) out.old result out.new }
 {
     out.put(lines().as_str().as_bytes())
 }

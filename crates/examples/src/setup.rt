@@ -1,22 +1,23 @@
 // The clocks of the examples, and the bus of two queues.
 ghost use Rattle.std.specs.Prelude.{◌≡◌, map};
-ghost use Rattle.exchange.specs.Parts.{bus_model};
-ghost use Rattle.examples.specs.Setups.{counts, all_counts, IsQueues};
+ghost use Rattle.exchange.specs.Bus.{bus_model};
+ghost use Rattle.examples.specs.Setup.{counts, all_counts, IsQueues};
 
 use device::EventQueue;
 use exchange::{Bus, End};
 use host::ListHost;
 use master::Master;
-use parts::{Clocks, list_of, queue_of};
 use port::Port;
+use support::{Clocks, list_of, queue_of};
 use transfer::{Address, ClockPair, Transfer};
 
+/// One master, and two queues.
 pub type QueueBus = Bus<(Master<ListHost>, End), (Port<EventQueue>, (Port<EventQueue>, End))>;
 
 // Two queues have this address, and the lines join what they show.
 const EVENTS: u32 = 0x51;
 
-// Alike, nearly alike, each slower in one count, and as far apart as can be: who wins must not depend on them.
+/// Alike, nearly alike, each slower in one count, and as far apart as can be: who wins must not depend on them.
 pub fn all_clocks() -> [Clocks; 4]
     ensures { map counts result ≡ all_counts }
 {
@@ -41,7 +42,7 @@ pub fn all_clocks() -> [Clocks; 4]
     ]
 }
 
-// One master reads one byte from two queues.
+/// One master reads one byte from two queues.
 pub fn queue_bus() -> QueueBus
     ensures { IsQueues (bus_model result) }
 {

@@ -1,4 +1,4 @@
-// A bus from scratch: two masters contend for a register file, and the run and their outcomes are printed.
+//! A bus from scratch: two masters contend for a register file, and the run and their outcomes are printed.
 #![tactic(auto)]
 
 use device::RegisterFile;

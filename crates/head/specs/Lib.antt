@@ -1,2 +1,2 @@
-pub mod Setups
-pub mod Runs
+pub mod Setup
+pub mod Run

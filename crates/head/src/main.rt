@@ -1,4 +1,4 @@
-// Three masters of one sensor head: the listing of their run, what each was told last, and the registers.
+//! Three masters of one sensor head: the listing of their run, what each was told last, and the registers.
 #![tactic(auto)]
 
 mod run;

@@ -1,28 +1,34 @@
 // Runs the bus until nobody wants anything any more, and prints what each tick shows and what came of it.
 ghost use Rattle.std.specs.Prelude.{◌≡◌, ℕ, ◌+◌, ◌≤◌, ◌++◌, Option, length};
 ghost use Rattle.std.specs.Option.{option_map};
-ghost use Rattle.exchange.specs.Parts.{bus_model};
-ghost use Rattle.transfer.specs.Outcomes.{outcome_model};
-ghost use Rattle.head.specs.Runs.{told_line, registers_line, end_text, PrintsHead};
+ghost use Rattle.exchange.specs.Bus.{bus_model};
+ghost use Rattle.transfer.specs.Outcome.{outcome_model};
+ghost use Rattle.head.specs.Run.{told_line, registers_line, end_text, PrintsHead};
 
 use crate::setup::{HeadBus, head_bus};
 use exchange::End;
-use parts::ticks_of_turns;
-use printing::{Output, print_run};
 use std::io;
+use support::{Output, print_run, ticks_of_turns};
 use text::{ArrayString, Decimal, push_bytes};
 use transfer::Outcome;
 
 const MASTERS: usize = 3;
 
-// Room for three lines of a master, each of 130 bytes at most, and for the line of 16 registers.
-const END: usize = 449;
+// Room for the line of a master: the longest outcome, 32 bytes read, and a number of 64 bits.
+const TOLD_ROOM: usize = 130;
+
+// Room for the line of the 16 registers.
+const REGISTERS_ROOM: usize = 59;
+
+// Room for the lines of three masters and for that of the registers.
+const END_ROOM: usize = 3 * TOLD_ROOM + REGISTERS_ROOM;
 
 // What a master was told last, if it was told anything.
 fn push_told<const N: usize>(text: &mut ArrayString<N>, number: u64, last: Option<Outcome>)
-    requires { length text.old.bytes + 130 ≤ N }
-    ensures line { text.new.bytes ≡ text.old.bytes ++ told_line number (option_map outcome_model last) }
-    ensures short { length text.new.bytes ≤ length text.old.bytes + 130 }
+    requires { length text.old.bytes + TOLD_ROOM ≤ N }
+    ensures line { text.new.bytes ≡
+        text.old.bytes ++ told_line number (option_map outcome_model last) }
+    ensures short { length text.new.bytes ≤ length text.old.bytes + TOLD_ROOM }
 {
     if let Some(outcome) = last {
         text.push_str("master ");
@@ -34,9 +40,9 @@ fn push_told<const N: usize>(text: &mut ArrayString<N>, number: u64, last: Optio
 }
 
 fn push_registers<const N: usize>(text: &mut ArrayString<N>, registers: &[u8; 16])
-    requires { length text.old.bytes + 59 ≤ N }
+    requires { length text.old.bytes + REGISTERS_ROOM ≤ N }
     ensures line { text.new.bytes ≡ text.old.bytes ++ registers_line registers.now }
-    ensures short { length text.new.bytes ≤ length text.old.bytes + 59 }
+    ensures short { length text.new.bytes ≤ length text.old.bytes + REGISTERS_ROOM }
 {
     text.push_str("registers:");
     push_bytes(text, registers);
@@ -44,7 +50,7 @@ fn push_registers<const N: usize>(text: &mut ArrayString<N>, registers: &[u8; 16
 }
 
 // Takes the head apart: the last outcomes, and then the registers.
-fn end_lines(bus: HeadBus) -> ArrayString<END>
+fn end_lines(bus: HeadBus) -> ArrayString<END_ROOM>
     ensures { result.bytes ≡ end_text (bus_model bus) }
 {
     let ((logger, (alarm_unit, (service_port, End))), (registers, _queues)) = bus.close();
@@ -56,6 +62,7 @@ fn end_lines(bus: HeadBus) -> ArrayString<END>
     text
 }
 
+/// Runs the head until it is at rest, and prints the listing, the last outcome of each master and the registers.
 // 16 turns are far more than the lists and the polls of this head take.
 pub fn run<O: Output>(out: &mut O) -> io::Result<()>
     ensures { PrintsHead O.Output.takes O.Output.fails out.old result out.new }

@@ -1,29 +1,33 @@
 // The bus of the sensor head: a logger, an alarm unit and a service port, and the three devices that they share.
 ghost use Rattle.std.specs.Prelude.{◌≡◌};
-ghost use Rattle.device.specs.EventQueues.{event_queue, queued};
-ghost use Rattle.device.specs.SlowLayers.{slowed};
-ghost use Rattle.exchange.specs.Parts.{bus_model};
-ghost use Rattle.master.specs.Serving.{served};
-ghost use Rattle.head.specs.Setups.{log_write, log_read, event_read, service_write, probe_write, slow_queue, ListsAt, PollsAt, IsHead};
+ghost use Rattle.device.specs.EventQueue.{event_queue, queue_model};
+ghost use Rattle.device.specs.Slow.{slow_model};
+ghost use Rattle.exchange.specs.Bus.{bus_model};
+ghost use Rattle.master.specs.Master.{hosted_master};
+ghost use Rattle.support.specs.Sent.{event_read};
+ghost use Rattle.head.specs.Setup.{log_write, log_read, service_write, probe_write, slow_queue, ListsAt, PollsAt, IsHead};
 
 use device::{Busy, EventQueue, RegisterFile, Slow};
 use exchange::{Bus, End};
 use host::{Host, ListHost, PollHost};
 use master::Master;
-use parts::{list_of, queue_of};
 use port::Port;
+use support::{list_of, queue_of};
 use transfer::{Address, ClockPair, Transfer};
 
+/// The logger, the alarm unit and the service port.
 pub type HeadMasters = (
     Master<ListHost>,
     (Master<PollHost>, (Master<ListHost>, End)),
 );
 
+/// The registers, the slow queue and the quick one.
 pub type HeadPorts = (
     Port<Busy<RegisterFile>>,
     (Port<Slow<EventQueue>>, (Port<EventQueue>, End)),
 );
 
+/// The bus of the sensor head.
 pub type HeadBus = Bus<HeadMasters, HeadPorts>;
 
 const REGISTERS: u32 = 0x50;
@@ -34,10 +38,9 @@ const EVENTS: u32 = 0x51;
 // No port has this address.
 const NOBODY: u32 = 0x22;
 
-// Apart from the service port: what each sends is the point of the program, and one function would take all of it as
-// arguments.
+// It writes two registers, and then reads them back. What each master sends is the point, so each has a function.
 fn logger() -> Master<ListHost>
-    ensures { ListsAt 2 2 log_write log_read (served ⟦<ListHost as Host>⟧ result) }
+    ensures { ListsAt 2 2 log_write log_read (hosted_master ⟦<ListHost as Host>⟧ result) }
 {
     let clock = ClockPair::new(2, 2).unwrap();
     let registers = Address::new(REGISTERS).unwrap();
@@ -48,15 +51,16 @@ fn logger() -> Master<ListHost>
 
 // It polls until an event has its highest bit set.
 fn alarm_unit() -> Master<PollHost>
-    ensures { PollsAt 1 3 event_read (served ⟦<PollHost as Host>⟧ result) }
+    ensures { PollsAt 1 3 event_read (hosted_master ⟦<PollHost as Host>⟧ result) }
 {
     let clock = ClockPair::new(1, 3).unwrap();
     let read = Transfer::read(Address::new(EVENTS).unwrap(), 1).unwrap();
     Master::new(clock, PollHost::new(read, 0x80))
 }
 
+// It writes one of the same registers, and then looks whether somebody else answers.
 fn service_port() -> Master<ListHost>
-    ensures { ListsAt 3 1 service_write probe_write (served ⟦<ListHost as Host>⟧ result) }
+    ensures { ListsAt 3 1 service_write probe_write (hosted_master ⟦<ListHost as Host>⟧ result) }
 {
     let clock = ClockPair::new(3, 1).unwrap();
     let write = Transfer::write(Address::new(REGISTERS).unwrap(), &[0x03, 0x7F]).unwrap();
@@ -66,11 +70,12 @@ fn service_port() -> Master<ListHost>
 
 // It holds the clock for 5 ticks.
 fn slow_events() -> Slow<EventQueue>
-    ensures { slowed event_queue queued result ≡ slow_queue }
+    ensures { slow_model event_queue queue_model result ≡ slow_queue }
 {
     Slow::new(5, queue_of(&[0x91, 0x85]).unwrap())
 }
 
+/// Each master at its clock with what its host wants, each device as it is made.
 pub fn head_bus() -> HeadBus
     ensures { IsHead (bus_model result) }
 {

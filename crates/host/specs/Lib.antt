@@ -1,3 +1,3 @@
-pub mod Behaviours
-pub mod ListHosts
-pub mod PollHosts
+pub mod Host
+pub mod ListHost
+pub mod PollHost

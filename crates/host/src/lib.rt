@@ -1,4 +1,7 @@
-// Hosts: what a master serves. A make says by its behaviour what it means, and shows that it keeps to it.
+//! Hosts: what a master serves. One works through a list of transfers, and one repeats a transfer.
+//!
+//! Each implementation of [`Host`] says by its behaviour what it means, and is proved to keep to
+//! it.
 #![tactic(auto)]
 
 mod host;

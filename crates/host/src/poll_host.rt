@@ -1,15 +1,11 @@
 // A host that repeats one transfer until the last byte read meets a mask.
-ghost use Rattle.std.specs.Prelude.{◌≡◌, false, None};
-ghost use Rattle.std.specs.Option.{option_map};
-ghost use Rattle.transfer.specs.Outcomes.{outcome_model};
-ghost use Rattle.host.specs.PollHosts.{polled, is_met, poll_host};
-
 use crate::host::Host;
 use transfer::{Outcome, OutcomeKind, Transfer};
 
-#[derive(Drop)]
+/// It wants its transfer until a done outcome of it meets the mask: the last byte read has a 1 in
+/// some bit where the mask has one. A mask of 0 is never met.
+#[derive(Drop, Debug)]
 pub struct PollHost {
-    // beside its flag, since it stays a part of what the host means once the mask is met
     transfer: Transfer,
     mask: u8,
     met: bool,
@@ -17,8 +13,14 @@ pub struct PollHost {
 }
 
 impl PollHost {
+    ghost use Rattle.std.specs.Option.{option_map};
+    ghost use Rattle.std.specs.Prelude.{◌≡◌};
+    ghost use Rattle.transfer.specs.Outcome.{outcome_model};
+    ghost use Rattle.host.specs.PollHost.{poll_host_model, new_poll_host, is_met_by};
+
+    /// The mask is not met, and there is no outcome.
     pub fn new(transfer: Transfer, mask: u8) -> PollHost
-        ensures { polled result ≡ record { transfer = transfer; mask = mask; met = false; last = None } }
+        ensures { poll_host_model result ≡ new_poll_host transfer mask }
     {
         PollHost {
             transfer,
@@ -30,44 +32,46 @@ impl PollHost {
 
     /// The transfer that it repeats, also once the mask is met.
     pub fn transfer(&self) -> Transfer
-        ensures { result ≡ (polled self.now).transfer }
+        ensures { result ≡ (poll_host_model self.now).transfer }
     {
         self.transfer
     }
 
     /// A 1 for each bit of which one has to be 1 in the last byte read.
     pub fn mask(&self) -> u8
-        ensures { result ≡ (polled self.now).mask }
+        ensures { result ≡ (poll_host_model self.now).mask }
     {
         self.mask
     }
 
     /// Whether the mask was met, so that nothing is wanted any more.
     pub fn is_met(&self) -> bool
-        ensures { result ≡ (polled self.now).met }
+        ensures { result ≡ (poll_host_model self.now).met }
     {
         self.met
     }
 
-    // Each make has its own: a trait for it would be longer than this.
+    /// The last outcome that it was told, if any.
     pub fn last(&self) -> Option<Outcome>
-        ensures { option_map outcome_model result ≡ (polled self.now).last }
+        ensures { option_map outcome_model result ≡ (poll_host_model self.now).last }
     {
         self.last
     }
 
     // Whether the outcome is one that the host waits for; no byte read counts as 0.
     fn is_met_by(&self, outcome: &Outcome) -> bool
-        ensures { result ≡ is_met self.now.mask (outcome_model outcome.now) }
+        ensures { result ≡ is_met_by self.now.mask (outcome_model outcome.now) }
     {
         outcome.kind == OutcomeKind::Done && outcome.read.last_or_zero() & self.mask != 0
     }
 }
 
 impl Host for PollHost {
+    ghost use Rattle.host.specs.PollHost.{poll_host_model, poll_host};
+
     ghost behaviour = { poll_host };
 
-    ghost means = { polled };
+    ghost meaning = { poll_host_model };
 
     fn want(&self) -> (bool, Transfer) {
         (!self.met, self.transfer)

@@ -1,21 +1,16 @@
--- A script played alone, bit by bit, against the ports is the transfer carried alone, byte by byte.
-pub mod Sealed
-pub mod Octets
-pub mod Banks
-pub mod PortsSide
-pub mod Moves
-pub mod SlotsLeft
-pub mod Alike
-pub mod Runs
-pub mod Phases
-pub mod Legs
-pub mod Statements
-pub mod CarriedAlone
-pub mod Told
-pub mod StringLaws
-pub mod ByteLaws
-pub mod Idle
-pub mod Acknowledged
-pub mod Noted
-pub mod Reached
-pub mod HandedOver
+-- A transfer played alone, bit by bit, is the transfer carried alone, byte by byte.
+pub mod SealedIsLegal
+pub mod BitsOfByte
+pub mod StepsOfBanks
+pub mod PortsAsSide
+pub mod CursorByParts
+pub mod SlotsRunOut
+pub mod SlotsOfLevels
+pub mod PortsWithinByte
+pub mod LegBitByBit
+pub mod PlayedIsCarried
+pub mod IdleBetweenTurns
+pub mod CursorsStayAlike
+pub mod StringSaysOutcome
+pub mod StringLawsHold
+pub mod ByteLawsHold

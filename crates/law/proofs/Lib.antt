@@ -1,7 +1,8 @@
-pub mod Tolds
-pub mod Sides
+pub mod LetterByRank
+pub mod FarSide
 pub mod Alone
-pub mod Law
-pub mod View
-pub mod Unheld
-pub mod Exemplified
+pub mod Machine
+pub mod Bus
+pub mod Asked
+pub mod WithoutHolds
+pub mod ExamplesHold

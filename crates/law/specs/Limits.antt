@@ -1,4 +1,4 @@
--- The limits of a bus, each of them a choice or drawn from others. Assumes nothing.
+-- The limits of a bus, each of them a choice or drawn from others.
 use Rattle.std.specs.Prelude.{ℕ, ◌+◌, ◌-◌, ◌*◌}
 use Rattle.transfer.specs.Limits.{most_bytes, most_legs, most_count}
 
@@ -31,15 +31,16 @@ most_letters = most_legs * letters_of_leg + (most_legs - 1) + 1
 abbrev pub ticks_of_low : ℕ
 ticks_of_low = most_count + 1
 
--- the longest high, after the rise: the tick of a repeated start, the high count from there, and the tick in which SCL falls
+-- the longest high, after the rise: the tick of a repeated start, the high count from there, and
+-- the tick in which SCL falls
 abbrev pub ticks_of_high : ℕ
 ticks_of_high = 1 + most_count + 1
 
 abbrev pub ticks_of_letter : ℕ
 ticks_of_letter = ticks_of_low + ticks_of_high
 
--- the longest opening: the tick in which masters begin to contend, that of the start, the high count, and the tick of the
--- first fall
+-- the longest opening: the tick in which masters begin to contend, that of the start, the high
+-- count, and the tick of the first fall
 abbrev pub ticks_of_opening : ℕ
 ticks_of_opening = 1 + 1 + most_count + 1
 

@@ -1,4 +1,4 @@
-// What a bus does, apart from the code that does it: what a tick shows, and the law over every use of a bus.
+//! What a bus does, apart from the code that does it: what a tick shows, and the law over every use of a bus.
 #![tactic(auto)]
 
 mod promises;

@@ -1,2 +1,2 @@
-pub mod Listings
-pub mod Lines
+pub mod Listing
+pub mod Marks

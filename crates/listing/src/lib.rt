@@ -1,10 +1,8 @@
-// The text of a run: what each tick shows, by number, one line for each mark.
+//! The text of a run: what each tick shows, by its number from 1 on, one line for each mark.
 #![tactic(auto)]
 
 mod listing;
 mod marks;
-#[cfg(test)]
-mod tests;
 
 pub use listing::Listing;
 pub use marks::{Marks, push_numbers};

@@ -1,11 +1,9 @@
 // The state of a listing: how many ticks it has seen, and the bytes of the wire.
-ghost use Rattle.std.specs.Prelude.{◌≡◌};
-ghost use Rattle.listing.specs.Listings.{new_listing, listing_step};
-
 use crate::marks::Marks;
 use law::Tick;
 use wire::Decoder;
 
+/// What a listing keeps from tick to tick.
 #[derive(Clone, Copy, PartialEq, Eq, Debug)]
 pub struct Listing {
     ticks: u64,
@@ -13,7 +11,10 @@ pub struct Listing {
 }
 
 impl Listing {
-    // Before the first tick, which is number 1.
+    ghost use Rattle.std.specs.Prelude.{◌≡◌};
+    ghost use Rattle.listing.specs.Listing.{new_listing, listing_step};
+
+    /// Before the first tick, which is number 1.
     pub fn new() -> Listing
         ensures { result ≡ new_listing }
     {
@@ -23,7 +24,7 @@ impl Listing {
         }
     }
 
-    // The marks of the next tick. The count stays at the highest number rather than wrap.
+    /// The marks of the next tick. The count stays at the highest number rather than wrap.
     pub fn step(&mut self, tick: &Tick) -> Marks
         ensures { (result, self.new) ≡ listing_step self.old tick.now }
     {

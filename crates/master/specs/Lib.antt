@@ -1,7 +1,8 @@
-pub mod Armings
-pub mod Symbols
-pub mod Rooms
-pub mod Cursors
-pub mod Scripts
-pub mod Masters
-pub mod Serving
+pub mod Arming
+pub mod Symbol
+pub mod CursorBounds
+pub mod Cursor
+pub mod Script
+pub mod MasterState
+pub mod Master
+pub mod Mark

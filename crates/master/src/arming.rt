@@ -1,6 +1,4 @@
 // Whether a master is armed, and with what.
-ghost use Rattle.std.specs.Prelude.{◌≡◌};
-ghost use Rattle.master.specs.Armings.{is_armed};
 
 /// A master that is armed stays so until its host is told an outcome or the master is reset, also while it contends and
 /// once it has lost.
@@ -11,6 +9,9 @@ pub enum Arming<T> {
 }
 
 impl<T> Arming<T> {
+    ghost use Rattle.std.specs.Prelude.{◌≡◌};
+    ghost use Rattle.master.specs.Arming.{is_armed};
+
     /// Whatever it is armed with.
     pub fn is_armed(&self) -> bool
         ensures { result ≡ is_armed self.now }

@@ -1,13 +1,19 @@
 // What a contender shows between a fall and the next.
 ghost use Rattle.std.specs.Prelude.{◌≡◌};
-ghost use Rattle.master.specs.Symbols.{bit_symbol, pulls_sda};
+ghost use Rattle.master.specs.Symbol.{bit_symbol};
 
+/// What a contender shows on SDA while the clock goes low and high once.
 #[derive(Clone, Copy, PartialEq, Eq, Debug)]
 pub enum Symbol {
+    /// SDA is pulled.
     Zero,
+    /// SDA is let go; heard as 0, it is lost (I2C specification 2.1, section 8.2).
     One,
+    /// SDA is let go for another's bit: of a byte that is read, or the acknowledge of one that is written.
     Listen,
+    /// SDA is let go, and pulled once the clock is high (section 6.2).
     RepeatedStart,
+    /// SDA is pulled, and let go once the clock is high (section 6.2).
     Stop,
 }
 
@@ -20,6 +26,8 @@ impl From<bool> for Symbol {
 }
 
 impl Symbol {
+    ghost use Rattle.master.specs.Symbol.{pulls_sda};
+
     // Whether SDA is pulled for it from the fall on.
     pub(crate) fn pulls_sda(self) -> bool
         ensures { result ≡ pulls_sda self }

@@ -1,16 +1,17 @@
 -- The text for what was read.
 use Rattle.std.proofs.Common.{◌≡◌, ℕ, List, [], ◌∷◌, Some, None, refl, subst, slice_index}
-use Rattle.host.specs.ListHosts.{Listed}
-use Rattle.pairwrite.specs.Inputs.{first_two}
-use Rattle.pairwrite.specs.Runs.{Prints, run_lines}
-use Rattle.pairwrite.specs.Setups.{Wants}
+use Rattle.host.specs.ListHost.{ListHostModel}
+use Rattle.pairwrite.specs.Input.{first_two}
+use Rattle.pairwrite.specs.Run.{Prints, run_lines}
+use Rattle.pairwrite.specs.Setup.{Wants}
 
 pub none : (xs : List ℕ) → None ≡ first_two xs → Prints xs []
 none [] e = refl
 none (x ∷ []) e = refl
 none (x ∷ y ∷ xs) e = absurd (cc)
 
-pub two : (xs bytes : List ℕ) (m n : Listed) → Some bytes ≡ first_two xs → Wants (slice_index bytes 0) m → Wants (slice_index bytes 1) n → Prints xs (run_lines m n)
+pub two : (xs bytes : List ℕ) (m n : ListHostModel) → Some bytes ≡ first_two xs → Wants (slice_index bytes 0) m →
+    Wants (slice_index bytes 1) n → Prints xs (run_lines m n)
 two [] bytes m n e first second = absurd (cc)
 two (x ∷ []) bytes m n e first second = absurd (cc)
 two (x ∷ y ∷ xs) bytes m n e first second =

@@ -1,3 +1,3 @@
-pub mod Inputs
-pub mod Setups
-pub mod Runs
+pub mod Input
+pub mod Setup
+pub mod Run

@@ -2,12 +2,13 @@
 ghost use Rattle.std.specs.Prelude.{ℕ, Option, IfOk, IfErr};
 ghost use Rattle.std.specs.Io.KnownBytes.{Keeps};
 ghost use Rattle.std.specs.declared.io.Error.{Error as Failure};
-ghost use Rattle.pairwrite.specs.Inputs.{Gives};
+ghost use Rattle.pairwrite.specs.Input.{Gives};
 
 use std::io::{self, ErrorKind, Read};
 
-// Byte by byte. A trait beside std's `Read`, whose contracts do not say when a read fails: here a failure is named, so that a
-// function over any input fails only where `next` does.
+/// Where bytes are read, one by one.
+// A trait beside std's `Read`, whose contracts do not say when a read fails: here a failure is named, so that a function over
+// any input fails only where `next` does.
 pub trait Input {
     // The input before, the byte that it gives or none at its end, and the input after.
     ghost gives: { Self → Option ℕ → Self → Type 0 };
@@ -15,6 +16,7 @@ pub trait Input {
     // The same of a read that fails, with its error.
     ghost fails: { Self → Failure → Self → Type 0 };
 
+    /// The next byte, or none at the end of the input.
     fn next(&mut self) -> io::Result<Option<u8>>
         ensures given { IfOk result (λ byte. gives self.old byte self.new) }
         ensures failed { IfErr result (λ e. fails self.old e self.new) };

@@ -1,4 +1,5 @@
-// Two masters write to one register file at the same time, and the listing of the bus is printed.
+//! Two masters write to one register at the same time, each a byte of standard input, and the listing of their bus is
+//! printed.
 #![tactic(auto)]
 
 mod input;

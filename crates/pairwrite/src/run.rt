@@ -1,19 +1,19 @@
 // Reads a byte for each of two masters, and prints the listing of their bus until it is at rest.
 ghost use Rattle.std.specs.Prelude.{◌≡◌, ℕ, List, IfOk, IfErr};
-ghost use Rattle.pairwrite.specs.Inputs.{Reads, FailsToRead, first_two};
-ghost use Rattle.pairwrite.specs.Runs.{PrintsInput};
+ghost use Rattle.pairwrite.specs.Input.{Reads, FailsToRead, first_two};
+ghost use Rattle.pairwrite.specs.Run.{PrintsInput};
 
 use crate::input::Input;
 use crate::setup::bus_of;
-use parts::ticks_of_turns;
-use printing::{Output, print_run};
 use std::io;
+use support::{Output, print_run, ticks_of_turns};
 
 const MASTERS: usize = 2;
 
 // The first two bytes of the input, if it has as many.
 fn two_bytes<I: Input>(input: &mut I) -> io::Result<Option<[u8; 2]>>
-    ensures read { IfOk result (λ bytes. (xs : List ℕ) × Reads I.Input.gives input.old xs input.new × (bytes ≡ first_two xs)) }
+    ensures read { IfOk result (λ bytes. (xs : List ℕ) ×
+        Reads I.Input.gives input.old xs input.new × (bytes ≡ first_two xs)) }
     ensures failed { IfErr result (FailsToRead I.Input.gives I.Input.fails input.old input.new) }
 {
     let Some(first) = input.next()? else {
@@ -25,9 +25,11 @@ fn two_bytes<I: Input>(input: &mut I) -> io::Result<Option<[u8; 2]>>
     Ok(Some([first, second]))
 }
 
-// Each of the two masters has one turn. Further bytes are not looked at.
+/// Reads two bytes, lets each of two masters write one of them to the same register, and prints the listing until both
+/// have been told. Fewer bytes print nothing; further ones are not looked at.
 pub fn run<I: Input, O: Output>(input: &mut I, out: &mut O) -> io::Result<()>
-    ensures { PrintsInput I.Input.gives I.Input.fails O.Output.takes O.Output.fails input.old input.new out.old result out.new }
+    ensures { PrintsInput I.Input.gives I.Input.fails O.Output.takes O.Output.fails
+        input.old input.new out.old result out.new }
 {
     let Some(bytes) = two_bytes(input)? else {
         return Ok(());

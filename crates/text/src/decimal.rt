@@ -1,17 +1,18 @@
-// A number in decimal.
+// A number as text in base ten.
 ghost use Rattle.std.specs.Prelude.{◌≡◌, ℕ, ◌+◌, ◌≤◌, ◌++◌, List, Some, length, decimal};
-ghost use Rattle.text.specs.Decimals.{IsDecimal};
+ghost use Rattle.text.specs.Decimal.{IsDecimal};
 
 use arrayvec::ArrayString;
 use itoa::Buffer;
 use std::fmt;
 
-/// A number, shown in base ten without leading zeros.
+/// A number of 64 bits, shown in base ten without leading zeros.
 #[derive(Clone, Copy, PartialEq, Eq, Debug)]
 pub struct Decimal(pub u64);
 
 impl Decimal {
-    /// The digits that it puts are a decimal of the number, and no other text is one. A number of 64 bits has 20 at most.
+    /// Puts the digits of the number at the end of the text: 1 to 20 of them. No other text is a
+    /// decimal of the number.
     pub fn push_to<const N: usize>(self, text: &mut ArrayString<N>)
         requires { length text.old.bytes + 20 ≤ N }
         ensures text { text.new.bytes ≡ text.old.bytes ++ decimal self.0 }

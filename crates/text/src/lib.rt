@@ -1,4 +1,7 @@
-// Numbers and bytes as text, put at the end of a text of fixed size by functions that cannot fail: each asks for room.
+//! Numbers and bytes as text: decimals, and bytes in two capital hexadecimal digits.
+//!
+//! Each function puts ASCII at the end of a text of fixed size. It cannot fail: it requires the
+//! room that it needs, in bytes.
 #![tactic(auto)]
 
 mod decimal;

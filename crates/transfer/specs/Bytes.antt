@@ -1,4 +1,4 @@
--- Bytes in a place of fixed size, by those that it holds. Assumes nothing.
+-- Bytes in a place of fixed size, by those that it holds.
 use Rattle.std.specs.Prelude.{ℕ, ◌-◌, List, length, take, slice_index}
 use Rattle.transfer.specs.declared.bytes.Bytes.{Bytes}
 

@@ -1,5 +1,5 @@
--- Lists of bytes. Assumes nothing.
+-- Lists of bytes.
 use Rattle.std.specs.Prelude.{ℕ, ◌<◌, List, slice_index}
 
-abbrev pub Octets : List ℕ → Type 0
-Octets xs = (k : ℕ) → slice_index xs k < 256
+abbrev pub IsOctets : List ℕ → Type 0
+IsOctets xs = (k : ℕ) → slice_index xs k < 256

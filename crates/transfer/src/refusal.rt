@@ -1,30 +1,42 @@
-// Why a call is refused. Of two cases the upper decides.
-ghost use Rattle.std.specs.Prelude.{◌≡◌, Some};
-ghost use Rattle.transfer.specs.Refusals.{number, message};
-
+// Why a call is refused.
 use std::error::Error;
 use std::fmt;
 
+/// A call that is refused changes nothing and makes nothing. Where two refusals apply, the upper
+/// one is given.
 #[derive(Clone, Copy, PartialEq, Eq, Debug)]
 pub enum Refusal {
+    /// An address is below 8 or above 119.
     AddressOutOfRange = 1,
+    /// A count of a clock pair is below 1 or above 255 ticks.
     ClockOutOfRange = 2,
+    /// The draft has two legs.
     TwoLegsAlready = 3,
+    /// A write has more than 16 bytes, a read has none or more than 16, or a list has more than 8
+    /// items.
     LengthOutOfRange = 4,
+    /// The bus has no master of this number.
     NoSuchMaster = 5,
+    /// The master is armed, so that an outcome is still to come.
     ArmedAlready = 6,
+    /// The host of the master wants no transfer.
     NothingWanted = 7,
+    /// A run is asked for more than 1,000,000 ticks.
     TooManyTicks = 8,
 }
 
 impl Refusal {
+    ghost use Rattle.std.specs.Prelude.{◌≡◌};
+    ghost use Rattle.transfer.specs.Refusal.{number, message};
+
+    /// A number for programs that report one, from 1 to 8.
     pub fn number(self) -> u8
         ensures { result ≡ number self }
     {
         self as u8
     }
 
-    /// What was refused, in words, with the limit where there is one. One message is for all lengths.
+    /// What was refused, in words, with the limit where there is one. All lengths have one message.
     pub fn message(self) -> &'static str
         ensures { result.now ≡ message self }
     {
@@ -44,6 +56,9 @@ impl Refusal {
 }
 
 impl fmt::Display for Refusal {
+    ghost use Rattle.std.specs.Prelude.{Some};
+    ghost use Rattle.transfer.specs.Refusal.{message};
+
     ghost output = { λ r. Some (message r) };
 
     fn fmt<W: fmt::Write>(&self, f: &mut fmt::Formatter<W>) -> fmt::Result {

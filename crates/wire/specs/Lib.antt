@@ -1,4 +1,6 @@
-pub mod Wires
-pub mod Octets
-pub mod Decoders
-pub mod ByteTexts
+pub mod Pulls
+pub mod Event
+pub mod Latch
+pub mod Wire
+pub mod ByteProgress
+pub mod Decoder

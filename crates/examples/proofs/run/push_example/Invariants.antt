@@ -1,6 +1,6 @@
 use Rattle.std.proofs.Common.{◌≡◌, ◌+◌, ◌*◌, ◌≤◌, ◌++◌, length, take}
 use Rattle.std.specs.List.{flat_map}
-use Rattle.examples.specs.Runs.{example_line}
+use Rattle.examples.specs.Run.{example_line}
 use Rattle.examples.proofs.run.push_example.Given as goal
 
 abbrev pub invariant-loop-choice : goal.invariant-loop-choice

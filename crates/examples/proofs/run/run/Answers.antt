@@ -1,7 +1,7 @@
 use Rattle.std.proofs.Common.{◌∙◌, ℕ, List, [], subst}
 use Rattle.std.proofs.Output.{writes_in_calls_nil}
-use Rattle.printing.proofs.Writing.{puts_more}
-use Rattle.printing.specs.Outputs.{Puts}
+use Rattle.support.proofs.Writing.{puts_more}
+use Rattle.support.specs.Output.{Puts}
 use Rattle.examples.proofs.run.run.Goals as goal
 
 pub returns : goal.returns
@@ -13,5 +13,6 @@ returns g c =
       examples,
       is_joined,
       subst (λ (x : List ℕ). Puts g.O.Output.takes g.O.Output.fails x c.args.out.now c.put.result c.put.new.self) all
-          (puts_more g.O.Output.takes g.O.Output.fails [] _ _ _ _ _ (writes_in_calls_nil g.O.Output.takes _) c.put.ensures.taken c.put.ensures.failed),
+          (puts_more g.O.Output.takes g.O.Output.fails [] _ _ _ _ _
+          (writes_in_calls_nil g.O.Output.takes _) c.put.ensures.taken c.put.ensures.failed),
     )

@@ -1,4 +1,4 @@
-use Rattle.law.proofs.Exemplified.{worked_examples}
+use Rattle.law.proofs.ExamplesHold.{worked_examples}
 use Rattle.law.proofs.promises.worked_examples.Goals as goal
 
 pub returns : goal.returns

@@ -1,11 +1,10 @@
-use Rattle.std.proofs.Common.{◌≡◌, [], ◌∷◌, inr, sym, ap, ◌∙◌, subst}
+use Rattle.std.proofs.Common.{◌≡◌, [], inr, sym, ap, ◌∙◌, subst}
 use Rattle.std.proofs.Output.{writes_in_calls_nil}
-use Rattle.exchange.specs.Parts.{bus_model}
-use Rattle.device.specs.RegisterFiles.{register_file}
-use Rattle.host.specs.ListHosts.{list_host}
-use Rattle.printing.specs.Outputs.{Puts}
-use Rattle.printing.specs.Runs.{setting_out, unheld_lines}
-use Rattle.pairwrite.specs.Runs.{run_lines}
+use Rattle.exchange.specs.Bus.{bus_model}
+use Rattle.support.specs.Output.{Puts}
+use Rattle.support.specs.PrintedRun.{listened_start, unheld_lines}
+use Rattle.pairwrite.specs.Run.{ticks_of_run, run_lines}
+use Rattle.pairwrite.specs.Setup.{pair_hosts, pair_devices}
 use Rattle.pairwrite.proofs.Texts.{none, two}
 use Rattle.pairwrite.proofs.run.run.Goals as goal
 
@@ -18,9 +17,10 @@ pub returns : goal.returns
 returns g c =
     let (xs, reads, is) = c.in_ok-bytes.ensures.read in
     let (m, n, first, second, bus_is) = c.bus_of-bus.ensures in
-    let hs = list_host ∷ list_host ∷ [] in
-    let ds = register_file ∷ [] in
-    let text : unheld_lines hs ds 2 c.ticks_of_turns.result (setting_out hs ds 2 (bus_model c.bus_of-bus.result)) ≡ run_lines m n = rw c.ticks_of_turns.ensures (ap (λ u. unheld_lines hs ds 2 320000 (setting_out hs ds 2 u)) bus_is) in
+    let hs = pair_hosts in
+    let ds = pair_devices in
+    let text : unheld_lines hs ds 2 c.ticks_of_turns.result (listened_start hs ds 2 (bus_model c.bus_of-bus.result)) ≡ run_lines m n =
+    rw c.ticks_of_turns.ensures (ap (λ u. unheld_lines hs ds 2 ticks_of_run (listened_start hs ds 2 u)) bus_is) in
     inr (
       xs,
       run_lines m n,

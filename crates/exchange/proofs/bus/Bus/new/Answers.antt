@@ -1,7 +1,7 @@
-use Rattle.law.proofs.Alone.ByteLaws.{byte_laws}
-use Rattle.law.proofs.Alone.StringLaws.{string_laws}
-use Rattle.law.proofs.View.Asked.{every_asked}
-use Rattle.law.proofs.View.Beginning.{every_use_lawful}
+use Rattle.law.proofs.Alone.ByteLawsHold.{byte_laws}
+use Rattle.law.proofs.Alone.StringLawsHold.{string_laws}
+use Rattle.law.proofs.Asked.EveryAskedHolds.{every_asked}
+use Rattle.law.proofs.Bus.EveryUseLawful.{every_use_lawful}
 use Rattle.std.proofs.Common.{rules}
 use Rattle.exchange.proofs.bus.Bus.new.Goals as goal
 
@@ -9,12 +9,15 @@ pub returns : goal.returns
 returns g c =
     let hs = g.M.Masters.hosts in
     let ds = g.P.Ports.devices in
+    let masters = g.M.Masters.model c.args.masters in
+    let ports = g.P.Ports.model c.args.ports in
+    let clocks = g.met.M.Masters.clocks_in_range c.args.masters in
     record {
       made = search rules;
-      law = every_use_lawful hs ds (g.M.Masters.stand c.args.masters) (g.P.Ports.stand c.args.ports) (g.met.M.Masters.clocked c.args.masters);
+      law = every_use_lawful hs ds masters ports clocks;
       strings = string_laws ds ds;
       bytes = byte_laws ds;
       hosts = search rules;
       devices = search rules;
-      asked = every_asked hs ds (g.M.Masters.stand c.args.masters) (g.P.Ports.stand c.args.ports) (g.met.M.Masters.clocked c.args.masters);
+      asked = every_asked hs ds masters ports clocks;
     }

@@ -1,5 +1,5 @@
 use Rattle.std.proofs.Common.{◌-◌, ◌*◌, ◌≤◌}
-use Rattle.exchange.specs.Parts.{bus_model}
+use Rattle.exchange.specs.Bus.{bus_model}
 use Rattle.law.specs.Limits.{most_masters}
 use Rattle.exchange.proofs.Counting.{Reached}
 use Rattle.exchange.proofs.bus.Bus.run.Given as goal

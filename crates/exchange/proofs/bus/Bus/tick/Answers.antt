@@ -1,9 +1,9 @@
 use Rattle.std.proofs.Common.{◌≡◌, ap, ◌∙◌, subst}
-use Rattle.law.proofs.Unheld.{tick_unheld}
-use Rattle.law.specs.Buses.{AllMayAnswer, levels_at}
-use Rattle.exchange.specs.Parts.{bus_model}
+use Rattle.law.proofs.WithoutHolds.{tick_unheld}
+use Rattle.law.specs.BusModel.{AllMayAnswer, levels_at}
+use Rattle.exchange.specs.Bus.{bus_model}
 use Rattle.exchange.proofs.Ticks.{levels_are, tick_is}
-use Rattle.wire.specs.Wires.{signal}
+use Rattle.wire.specs.Wire.{signal}
 use Rattle.exchange.proofs.bus.Bus.tick.Goals as goal
 
 pub returns : goal.returns
@@ -12,8 +12,10 @@ returns g c =
     let ds = g.P.Ports.devices in
     let u = bus_model c.args.self.now in
     let step = c.step-2.ensures in
-    let levels_is : c.levels-levels.result ≡ levels_at hs ds u = levels_are _ _ _ _ _ _ c.levels-levels.ensures c.or.ensures c.pulls.ensures c.pulls-2.ensures in
-    let signal_is : c.step-signal.result ≡ signal u.wire (levels_at hs ds u) = c.step-signal.ensures.answer ∙ ap (signal u.wire) levels_is in
+    let levels_is : c.levels-levels.result ≡ levels_at hs ds u =
+    levels_are _ _ _ _ _ _ c.levels-levels.ensures c.or.ensures c.pulls.ensures c.pulls-2.ensures in
+    let signal_is : c.step-signal.result ≡ signal u.wire (levels_at hs ds u) =
+    c.step-signal.ensures.answer ∙ ap (signal u.wire) levels_is in
     let may = subst (λ s. AllMayAnswer ds u.ports s step.0) signal_is step.1 in
     let asked = subst (λ s. g.P.Ports.asked c.args.self.now.ports s step.0 c.step-2.new.self) signal_is step.3 in
     let tick = tick_is hs ds u c.levels-levels.result c.step-signal.result c.step-signal.new.self _ _ _ step.0

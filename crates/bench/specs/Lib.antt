@@ -1,0 +1,4 @@
+pub mod Work
+pub mod Writer
+pub mod Counting
+pub mod Sizes

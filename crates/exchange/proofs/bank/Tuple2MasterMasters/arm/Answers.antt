@@ -1,4 +1,0 @@
-use Rattle.exchange.proofs.bank.Tuple2MasterMasters.arm.Goals as goal
-
-pub returns-then-master-eq0-clause-same : goal.returns-then-master-eq0-clause-same
-returns-then-master-eq0-clause-same g c = (c.arm.ensures.same, g.met.B.Masters.own_hosts c.args.self.now.1)

@@ -1,9 +1,0 @@
-use Rattle.std.proofs.Common.{ℕ, subst}
-use Rattle.host.specs.contracts.poll_host.PollHostHost.TheImpl.{ghosts}
-use Rattle.master.specs.Serving.{served}
-use Rattle.parts.proofs.Made.{ok_same, unwrapped}
-use Rattle.workload.specs.Works.{WritesForEver}
-use Rattle.growth.proofs.banks.quick.Goals as goal
-
-pub returns : goal.returns
-returns c = subst (λ (counts : ℕ × ℕ). WritesForEver counts.0 counts.1 80 18 (served ghosts c.master.result)) (ok_same (unwrapped (λ k. (k.low, k.high)) _ _ _ c.new.ensures c.unwrap.ensures)) c.master.ensures

@@ -1,0 +1,23 @@
+-- A bus of which only scripts, one far side and one hold are known: how its turns go, and the invariant of them.
+pub mod BusAsMachine
+pub mod PhasesOfSlot
+pub mod EventForAll
+pub mod Game
+pub mod Arbitration
+pub mod LeadingSymbol
+pub mod FateOfContender
+pub mod LeastStringWins
+pub mod BookOfMachine
+pub mod CellsOfTurn
+pub mod TickOfStart
+pub mod TickWhileLow
+pub mod TickWhileHigh
+pub mod TickAfterRise
+pub mod VerdictsElsewhere
+pub mod SurvivorsOfSlot
+pub mod SlotsOfTurn
+pub mod SlotsTellLeast
+pub mod Invariant
+pub mod TickOfStop
+pub mod InvariantKept
+pub mod InvariantSays

@@ -1,0 +1,176 @@
+// A master without its host: where it stands in a turn, and how it steps.
+use crate::arming::Arming;
+use crate::cursor::Cursor;
+use crate::symbol::Symbol;
+use transfer::{ClockPair, Outcome, Transfer};
+use wire::{Event, Pulls, Signal};
+
+// Where a master stands in a turn; a contender is somewhere in its transfer.
+#[derive(Clone, Copy)]
+pub enum Stage {
+    // no contender, or lost
+    Idle,
+    // from the pull that makes the start to the first fall
+    StartPending(Cursor),
+    Sending(Symbol, Cursor),
+    // SDA was let go for the stop in the last tick
+    StopPending(Cursor),
+}
+
+// What a tick makes of a master.
+#[derive(Clone, Copy)]
+pub enum Verdict {
+    Quiet,
+    Lost,
+    Told(Outcome),
+}
+
+// Its clock, what it is armed with, and where it stands in a turn. `count` is how many ticks its clock still is low or
+// high. Clauses see it by `master_model`: an `impl Model` would hide the range of the clock's counts, which the law
+// `clocks_in_range` of a bank of masters needs.
+#[derive(Drop)]
+pub struct MasterState {
+    pub(crate) clock: ClockPair,
+    pub(crate) arming: Arming<Transfer>,
+    stage: Stage,
+    count: u8,
+    pub(crate) pulls: Pulls,
+}
+
+impl MasterState {
+    ghost use Rattle.std.specs.Prelude.{◌≡◌, true};
+    ghost use Rattle.master.specs.MasterState.{master_model, new_master, master_step, verdict_model, contending_step};
+    ghost use Rattle.master.specs.MasterState.{losing_step, with_stage, quiet, told};
+    ghost use Rattle.master.specs.Symbol.{pulls_sda};
+    ghost use Rattle.master.specs.Script.{transfers};
+    ghost use Rattle.transfer.specs.Outcome.{outcome_model};
+
+    pub(crate) fn new(clock: ClockPair) -> MasterState
+        ensures { master_model result ≡ new_master transfers clock.low clock.high }
+    {
+        MasterState {
+            clock,
+            arming: Arming::Unarmed,
+            stage: Stage::Idle,
+            count: 0,
+            pulls: Pulls::none(),
+        }
+    }
+
+    pub(crate) fn step(&mut self, signal: Signal) -> Verdict
+        ensures { (master_model self.new, verdict_model result) ≡
+            master_step transfers (master_model self.old) signal }
+    {
+        // by event first: all masters meet the same one, so its branch is foreseen from the second on
+        match (signal.event, &mut self.stage) {
+            (Event::SteadyHigh, Stage::Idle) if signal.free_and_high => self.contend(),
+            (Event::SteadyLow, Stage::StartPending(_) | Stage::Sending(..)) => {
+                self.count = self.count.saturating_sub(1);
+                self.pulls.scl = self.count > 0;
+                Verdict::Quiet
+            }
+            (Event::SteadyHigh, Stage::StartPending(_) | Stage::Sending(..)) => {
+                self.count = self.count.saturating_sub(1);
+                self.pulls.scl = self.count == 0;
+                Verdict::Quiet
+            }
+            (Event::Fall, Stage::StartPending(cursor)) => {
+                let symbol = cursor.symbol();
+                self.stage = Stage::Sending(symbol, *cursor);
+                self.pull_for(symbol)
+            }
+            (Event::Fall, Stage::Sending(symbol, cursor)) => {
+                cursor.advance(signal.bit.unwrap_or(true));
+                *symbol = cursor.symbol();
+                let symbol = *symbol;
+                self.pull_for(symbol)
+            }
+            (Event::Rise(sda), Stage::Sending(symbol, cursor)) => match (*symbol, sda) {
+                // 1 and the repeated start are lost under a low (I2C specification 2.1, section 8.2)
+                (Symbol::One | Symbol::RepeatedStart, false) => self.lose(),
+                (Symbol::RepeatedStart, true) => {
+                    self.pulls.sda = true;
+                    self.count_high()
+                }
+                (Symbol::Stop, _) => {
+                    self.stage = Stage::StopPending(*cursor);
+                    self.pulls.sda = false;
+                    self.count_high()
+                }
+                _ => self.count_high(),
+            },
+            (Event::Start, Stage::Sending(Symbol::One, _)) => self.lose(),
+            (Event::Start, Stage::StartPending(_) | Stage::Sending(..))
+            | (Event::Rise(_), Stage::StartPending(_)) => self.count_high(),
+            (Event::Stop, Stage::StopPending(cursor)) => {
+                let outcome = cursor.outcome();
+                self.tell(outcome)
+            }
+            (_, Stage::StopPending(_)) => self.lose(),
+            _ => Verdict::Quiet,
+        }
+    }
+
+    // An armed master pulls SDA, for the start of its turn (I2C specification 2.1, section 6.2).
+    fn contend(&mut self) -> Verdict
+        ensures { (master_model self.new, verdict_model result) ≡
+            contending_step transfers (master_model self.old) (master_model self.old).arming }
+    {
+        if let Arming::Armed(transfer) = self.arming {
+            self.stage = Stage::StartPending(Cursor::new(transfer));
+            self.count = 0;
+            self.pulls = Pulls {
+                scl: false,
+                sda: true,
+            };
+        }
+        Verdict::Quiet
+    }
+
+    // At a rise or a start the high count begins (I2C specification 2.1, section 8.1).
+    fn count_high(&mut self) -> Verdict
+        ensures after { master_model self.new ≡
+            with_stage transfers (master_model self.old) (master_model self.old).stage
+            self.old.clock.high self.old.pulls.scl self.old.pulls.sda }
+        ensures verdict { verdict_model result ≡ quiet }
+    {
+        self.count = self.clock.high();
+        Verdict::Quiet
+    }
+
+    // At a fall the clock is pulled, and SDA as the symbol shown asks.
+    fn pull_for(&mut self, symbol: Symbol) -> Verdict
+        ensures after { master_model self.new ≡
+            with_stage transfers (master_model self.old) (master_model self.old).stage
+            self.old.clock.low true (pulls_sda symbol) }
+        ensures verdict { verdict_model result ≡ quiet }
+    {
+        self.count = self.clock.low();
+        self.pulls = Pulls {
+            scl: true,
+            sda: symbol.pulls_sda(),
+        };
+        Verdict::Quiet
+    }
+
+    // A loser lets go of both lines, stays armed and waits.
+    fn lose(&mut self) -> Verdict
+        ensures { (master_model self.new, verdict_model result) ≡
+            losing_step transfers (master_model self.old) }
+    {
+        self.stage = Stage::Idle;
+        self.count = 0;
+        self.pulls = Pulls::none();
+        Verdict::Lost
+    }
+
+    // Once its host is told a master is as a new one.
+    fn tell(&mut self, outcome: Outcome) -> Verdict
+        ensures after { master_model self.new ≡
+            new_master transfers self.old.clock.low self.old.clock.high }
+        ensures verdict { verdict_model result ≡ told (outcome_model outcome) }
+    {
+        *self = MasterState::new(self.clock);
+        Verdict::Told(outcome)
+    }
+}

@@ -1,3 +1,0 @@
-pub mod Filled
-pub mod Pairs
-pub mod Arms

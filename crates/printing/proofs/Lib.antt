@@ -1,6 +1,0 @@
-pub mod Kept
-pub mod OneText
-pub mod Progress
-pub mod SomeRun
-pub mod Unheld
-pub mod Writing

@@ -1,9 +1,0 @@
--- Which counts a clock pair may have. Assumes nothing.
-use Rattle.std.specs.Prelude.{ℕ, Bool, cond, ◌&&◌, Ok, Err, Result, nat_le}
-use Rattle.transfer.specs.Limits.{most_count}
-
-abbrev pub is_count : ℕ → Bool
-is_count n = nat_le 1 n && nat_le n most_count
-
-abbrev pub checked_counts : ℕ → ℕ → Result (ℕ × ℕ) ℕ
-checked_counts low high = cond (is_count low && is_count high) (Ok (low, high)) (Err 2)

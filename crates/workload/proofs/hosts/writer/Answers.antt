@@ -1,6 +1,0 @@
-use Rattle.std.proofs.Common.{Ok, ap}
-use Rattle.parts.proofs.Made.{ok_same}
-use Rattle.workload.proofs.hosts.writer.Goals as goal
-
-pub returns : goal.returns
-returns c = (c.in_ok-write.write, ok_same c.in_ok-write.ensures, ap Ok c.new.ensures)
