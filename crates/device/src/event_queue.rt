@@ -1,4 +1,7 @@
 // A queue of up to 8 bytes, each read once.
+ghost use Rattle.std.specs.Prelude.{◌≤◌, length};
+ghost use Rattle.transfer.specs.Limits.{most_items};
+
 use crate::device::Device;
 use transfer::{Direction, Fifo, Refusal};
 
@@ -11,6 +14,7 @@ const NO_BYTE: u8 = 0xFF;
 #[derive(Drop)]
 pub struct EventQueue {
     bytes: Fifo<u8>,
+    ghost few: { length bytes ≤ most_items },
 }
 
 impl EventQueue {

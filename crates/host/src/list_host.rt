@@ -1,4 +1,7 @@
 // A host with a list of up to 8 transfers.
+ghost use Rattle.std.specs.Prelude.{◌≤◌, length};
+ghost use Rattle.transfer.specs.Limits.{most_items};
+
 use crate::host::Host;
 use transfer::{Fifo, Outcome, Refusal, Transfer};
 
@@ -6,6 +9,7 @@ use transfer::{Fifo, Outcome, Refusal, Transfer};
 #[derive(Drop)]
 pub struct ListHost {
     transfers: Fifo<Transfer>,
+    ghost few: { length transfers ≤ most_items },
     last: Option<Outcome>,
 }
 

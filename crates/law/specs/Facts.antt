@@ -10,7 +10,7 @@ use Rattle.device.specs.Device.{Behaviour}
 use Rattle.law.specs.Bank.{Bank, bank_map, bank_list, BankAll}
 use Rattle.law.specs.TransferResult.{AddressedDevice, DeviceInLeg, device_after_call, device_after_put}
 use Rattle.law.specs.TransferResult.{device_after_take, byte_given_by, joint_byte, any_in, leg_result, transfer_result}
-use Rattle.law.specs.Legal.{IsLegal}
+use Rattle.transfer.specs.Legal.{IsLegal}
 use Rattle.law.specs.Limits.{bits_of_byte, letters_of_byte, most_letters}
 use Rattle.wire.specs.ByteProgress.{bit_at}
 use Rattle.transfer.specs.Address.{answers_to}

@@ -3,7 +3,6 @@ pub mod Bank
 pub mod BusModel
 pub mod Letter
 pub mod TransferResult
-pub mod Legal
 pub mod Facts
 pub mod Book
 pub mod WorkedExamples

@@ -2,14 +2,11 @@
 use Rattle.std.specs.Prelude.{ℕ, ◌-◌, Bool, true, false, if◌then◌else◌, Option, Result, ◌==◌, nat_lt}
 use Rattle.std.specs.Option.{unwrap_or}
 use Rattle.transfer.specs.Transfer.{transfer_model}
-use Rattle.transfer.specs.Outcome.{outcome_model}
 use Rattle.master.specs.declared.arming.Arming.{Arming}
 use Rattle.master.specs.declared.arming.Arming.TheVariants.{Unarmed, Armed}
 use Rattle.master.specs.declared.state.MasterState.{MasterState}
 use Rattle.master.specs.declared.state.Stage.{Stage}
 use Rattle.master.specs.declared.state.Stage.TheVariants.{Idle, StartPending, Sending, StopPending}
-use Rattle.master.specs.declared.state.Verdict.{Verdict}
-use Rattle.master.specs.declared.state.Verdict.TheVariants.{Quiet, Lost, Told}
 use Rattle.master.specs.declared.symbol.Symbol.{Symbol}
 use Rattle.master.specs.declared.symbol.Symbol.TheVariants as symbol
 use Rattle.wire.specs.declared.event.Event.{Event}
@@ -148,8 +145,3 @@ master_model m = record {
   count = m.count;
   pulls = m.pulls;
 }
-
-abbrev pub verdict_model : Verdict → VerdictModel transfers
-verdict_model Quiet = quiet
-verdict_model Lost = lost
-verdict_model (Told o) = told (outcome_model o)

@@ -1,7 +1,7 @@
 // A master with the host that it serves.
 use crate::arming::Arming;
 use crate::mark::Mark;
-use crate::state::{MasterState, Verdict};
+use crate::state::MasterState;
 use host::Host;
 use transfer::{ClockPair, Refusal};
 use wire::{Pulls, Signal};
@@ -108,13 +108,6 @@ impl<H: Host> Master<H> {
         ensures after { hosted_master H.Host self.new ≡
             hosted_step _ signal (hosted_master H.Host self.old) }
     {
-        match self.state.step(signal) {
-            Verdict::Quiet => Mark::Quiet,
-            Verdict::Lost => Mark::Lost,
-            Verdict::Told(outcome) => {
-                self.host.told(&outcome);
-                Mark::Told
-            }
-        }
+        self.state.step(signal, &mut self.host)
     }
 }

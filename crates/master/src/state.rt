@@ -1,7 +1,9 @@
 // A master without its host: where it stands in a turn, and how it steps.
 use crate::arming::Arming;
 use crate::cursor::Cursor;
+use crate::mark::Mark;
 use crate::symbol::Symbol;
+use host::Host;
 use transfer::{ClockPair, Outcome, Transfer};
 use wire::{Event, Pulls, Signal};
 
@@ -15,14 +17,6 @@ pub enum Stage {
     Sending(Symbol, Cursor),
     // SDA was let go for the stop in the last tick
     StopPending(Cursor),
-}
-
-// What a tick makes of a master.
-#[derive(Clone, Copy)]
-pub enum Verdict {
-    Quiet,
-    Lost,
-    Told(Outcome),
 }
 
 // Its clock, what it is armed with, and where it stands in a turn. `count` is how many ticks its clock still is low or
@@ -39,8 +33,9 @@ pub struct MasterState {
 
 impl MasterState {
     ghost use Rattle.std.specs.Prelude.{◌≡◌, true};
-    ghost use Rattle.master.specs.MasterState.{master_model, new_master, master_step, verdict_model, contending_step};
-    ghost use Rattle.master.specs.MasterState.{losing_step, with_stage, quiet, told};
+    ghost use Rattle.master.specs.declared.mark.Mark.TheVariants.{Quiet, Told, Lost};
+    ghost use Rattle.master.specs.Master.{mark_of, meaning_after};
+    ghost use Rattle.master.specs.MasterState.{master_model, new_master, master_step, contending_step, losing_step, with_stage};
     ghost use Rattle.master.specs.Symbol.{pulls_sda};
     ghost use Rattle.master.specs.Script.{transfers};
     ghost use Rattle.transfer.specs.Outcome.{outcome_model};
@@ -57,9 +52,13 @@ impl MasterState {
         }
     }
 
-    pub(crate) fn step(&mut self, signal: Signal) -> Verdict
-        ensures { (master_model self.new, verdict_model result) ≡
-            master_step transfers (master_model self.old) signal }
+    // One tick. Its host is told here: an outcome that was handed up would cost each tick the room for one.
+    pub(crate) fn step<H: Host>(&mut self, signal: Signal, host: &mut H) -> Mark
+        ensures after { master_model self.new ≡
+            (master_step transfers (master_model self.old) signal).0 }
+        ensures mark { result ≡ mark_of (master_step transfers (master_model self.old) signal).1 }
+        ensures host { H.Host.meaning host.new ≡ meaning_after H.Host.behaviour
+            (H.Host.meaning host.old) (master_step transfers (master_model self.old) signal).1 }
     {
         // by event first: all masters meet the same one, so its branch is foreseen from the second on
         match (signal.event, &mut self.stage) {
@@ -67,12 +66,12 @@ impl MasterState {
             (Event::SteadyLow, Stage::StartPending(_) | Stage::Sending(..)) => {
                 self.count = self.count.saturating_sub(1);
                 self.pulls.scl = self.count > 0;
-                Verdict::Quiet
+                Mark::Quiet
             }
             (Event::SteadyHigh, Stage::StartPending(_) | Stage::Sending(..)) => {
                 self.count = self.count.saturating_sub(1);
                 self.pulls.scl = self.count == 0;
-                Verdict::Quiet
+                Mark::Quiet
             }
             (Event::Fall, Stage::StartPending(cursor)) => {
                 let symbol = cursor.symbol();
@@ -104,17 +103,18 @@ impl MasterState {
             | (Event::Rise(_), Stage::StartPending(_)) => self.count_high(),
             (Event::Stop, Stage::StopPending(cursor)) => {
                 let outcome = cursor.outcome();
-                self.tell(outcome)
+                self.tell(outcome, host)
             }
             (_, Stage::StopPending(_)) => self.lose(),
-            _ => Verdict::Quiet,
+            _ => Mark::Quiet,
         }
     }
 
     // An armed master pulls SDA, for the start of its turn (I2C specification 2.1, section 6.2).
-    fn contend(&mut self) -> Verdict
-        ensures { (master_model self.new, verdict_model result) ≡
-            contending_step transfers (master_model self.old) (master_model self.old).arming }
+    fn contend(&mut self) -> Mark
+        ensures after { master_model self.new ≡
+            (contending_step transfers (master_model self.old) (master_model self.old).arming).0 }
+        ensures mark { result ≡ Quiet }
     {
         if let Arming::Armed(transfer) = self.arming {
             self.stage = Stage::StartPending(Cursor::new(transfer));
@@ -124,53 +124,56 @@ impl MasterState {
                 sda: true,
             };
         }
-        Verdict::Quiet
+        Mark::Quiet
     }
 
     // At a rise or a start the high count begins (I2C specification 2.1, section 8.1).
-    fn count_high(&mut self) -> Verdict
+    fn count_high(&mut self) -> Mark
         ensures after { master_model self.new ≡
             with_stage transfers (master_model self.old) (master_model self.old).stage
             self.old.clock.high self.old.pulls.scl self.old.pulls.sda }
-        ensures verdict { verdict_model result ≡ quiet }
+        ensures mark { result ≡ Quiet }
     {
         self.count = self.clock.high();
-        Verdict::Quiet
+        Mark::Quiet
     }
 
     // At a fall the clock is pulled, and SDA as the symbol shown asks.
-    fn pull_for(&mut self, symbol: Symbol) -> Verdict
+    fn pull_for(&mut self, symbol: Symbol) -> Mark
         ensures after { master_model self.new ≡
             with_stage transfers (master_model self.old) (master_model self.old).stage
             self.old.clock.low true (pulls_sda symbol) }
-        ensures verdict { verdict_model result ≡ quiet }
+        ensures mark { result ≡ Quiet }
     {
         self.count = self.clock.low();
         self.pulls = Pulls {
             scl: true,
             sda: symbol.pulls_sda(),
         };
-        Verdict::Quiet
+        Mark::Quiet
     }
 
     // A loser lets go of both lines, stays armed and waits.
-    fn lose(&mut self) -> Verdict
-        ensures { (master_model self.new, verdict_model result) ≡
-            losing_step transfers (master_model self.old) }
+    fn lose(&mut self) -> Mark
+        ensures after { master_model self.new ≡ (losing_step transfers (master_model self.old)).0 }
+        ensures mark { result ≡ Lost }
     {
         self.stage = Stage::Idle;
         self.count = 0;
         self.pulls = Pulls::none();
-        Verdict::Lost
+        Mark::Lost
     }
 
     // Once its host is told a master is as a new one.
-    fn tell(&mut self, outcome: Outcome) -> Verdict
+    fn tell<H: Host>(&mut self, outcome: Outcome, host: &mut H) -> Mark
         ensures after { master_model self.new ≡
             new_master transfers self.old.clock.low self.old.clock.high }
-        ensures verdict { verdict_model result ≡ told (outcome_model outcome) }
+        ensures mark { result ≡ Told }
+        ensures host { H.Host.meaning host.new ≡
+            H.Host.behaviour.told (H.Host.meaning host.old) (outcome_model outcome) }
     {
         *self = MasterState::new(self.clock);
-        Verdict::Told(outcome)
+        host.told(&outcome);
+        Mark::Told
     }
 }

@@ -1,5 +1,5 @@
 -- What the program prints for what it reads.
-use Rattle.std.specs.Prelude.{◌≡◌, ℕ, ◌*◌, ◌⊎◌, List, [], ◌∷◌, Option, Err, Result}
+use Rattle.std.specs.Prelude.{◌≡◌, ℕ, ◌*◌, ◌⊎◌, List, [], ◌∷◌, Err, Result}
 use Rattle.std.specs.declared.io.Error.{Error}
 use Rattle.host.specs.ListHost.{ListHostModel}
 use Rattle.law.specs.Limits.{most_ticks_of_turn}
@@ -27,11 +27,11 @@ Prints (first ∷ second ∷ xs) text =
     (text ≡ run_lines m n)
 
 module _ {R W : Type 0}
-    (gives : R → Option ℕ → R → Type 0) (read_fails : R → Error → R → Type 0)
+    (gives : R → List ℕ → R → Type 0) (ended : R → Type 0) (read_fails : R → Error → R → Type 0)
     (takes : W → List ℕ → W → Type 0) (write_fails : W → List ℕ → Error → W → Type 0) where
   -- a read fails, and nothing is written; or what is read has a text, and that is written, or a first part of it
   abbrev pub PrintsInput : R → R → W → Result (Unit {0}) Error → W → Type 0
   PrintsInput s t out r after =
       ((e : Error) × (r ≡ Err e) × FailsToRead gives read_fails s t e × (after ≡ out)) ⊎
-      ((xs : List ℕ) × (text : List ℕ) × Reads gives s xs t × Prints xs text ×
+      ((xs : List ℕ) × (text : List ℕ) × Reads gives ended s xs t × Prints xs text ×
       Puts takes write_fails text out r after)

@@ -8,3 +8,4 @@ pub mod Leg
 pub mod Transfer
 pub mod Outcome
 pub mod Fifo
+pub mod Legal

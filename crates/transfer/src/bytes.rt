@@ -1,5 +1,6 @@
 // Up to N bytes in a place of fixed size: what a leg writes, or what was read.
 ghost use Rattle.std.specs.Prelude.{◌≡◌, ◌≤◌, length};
+ghost use Rattle.transfer.specs.Limits.{most_bytes};
 ghost use Rattle.transfer.specs.Octets.{IsOctets};
 
 use std::fmt;
@@ -21,7 +22,8 @@ pub struct Bytes<const N: usize> {
     pub len: usize,
     ghost fits: { len ≤ N },
     ghost room: { length bytes ≡ N },
-    ghost octets: { IsOctets bytes },
+    // of those that a leg can write: what was read owes nothing
+    ghost octets: { N ≤ most_bytes → IsOctets bytes },
 }
 
 /// What a leg writes.

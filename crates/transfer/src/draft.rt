@@ -123,15 +123,17 @@ impl Model for Draft {
 }
 
 impl Draft {
-    ghost use Rattle.std.specs.Prelude.{◌≡◌};
+    ghost use Rattle.std.specs.Prelude.{◌≡◌, OnOk};
     ghost use Rattle.transfer.specs.Leg.{body_model};
+    ghost use Rattle.transfer.specs.Legal.{IsLegal};
     ghost use Rattle.transfer.specs.Refusal.{answer};
     ghost use Rattle.transfer.specs.Transfer.{transfer_model, new_draft, with_last_body};
     ghost use Rattle.transfer.specs.Transfer.{answer_to_write, answer_to_read, answer_to_second_leg};
 
     /// One leg, an empty write to the address.
     pub fn new(address: Address) -> Draft
-        ensures { result ≡ new_draft address.number }
+        ensures made { result ≡ new_draft address.number }
+        ensures legal { IsLegal result }
     {
         Draft {
             transfer: Transfer {
@@ -143,7 +145,8 @@ impl Draft {
 
     // The last leg gets this body.
     fn set_body(&mut self, body: Body)
-        ensures { self.new ≡ with_last_body (body_model body) self.old.first self.old.second }
+        ensures set { self.new ≡ with_last_body (body_model body) self.old.first self.old.second }
+        ensures legal { IsLegal self.new }
     {
         match &mut self.transfer.second {
             Some(leg) => leg.body = body,
@@ -153,7 +156,8 @@ impl Draft {
 
     /// The last leg becomes a write of these bytes, 0 to [`MOST_BYTES`] of them.
     pub fn write(&mut self, bytes: &[u8]) -> Result<(), Refusal>
-        ensures { (answer (λ u. u) result, self.new) ≡ answer_to_write bytes.now self.old }
+        ensures answered { (answer (λ u. u) result, self.new) ≡ answer_to_write bytes.now self.old }
+        ensures legal { OnOk result (IsLegal self.new) }
     {
         if bytes.len() > MOST_BYTES {
             return Err(Refusal::LengthOutOfRange);
@@ -164,7 +168,8 @@ impl Draft {
 
     /// The last leg becomes a read of `count` bytes, 1 to [`MOST_BYTES`].
     pub fn read(&mut self, count: u32) -> Result<(), Refusal>
-        ensures { (answer (λ u. u) result, self.new) ≡ answer_to_read count self.old }
+        ensures answered { (answer (λ u. u) result, self.new) ≡ answer_to_read count self.old }
+        ensures legal { OnOk result (IsLegal self.new) }
     {
         if !(1..=MOST_BYTES as u32).contains(&count) {
             return Err(Refusal::LengthOutOfRange);
@@ -175,7 +180,8 @@ impl Draft {
 
     /// A second leg, an empty write to the address; it is then the last.
     pub fn second_leg(&mut self, address: Address) -> Result<(), Refusal>
-        ensures { (answer (λ u. u) result, self.new) ≡ answer_to_second_leg address.number self.old }
+        ensures answered { (answer (λ u. u) result, self.new) ≡ answer_to_second_leg address.number self.old }
+        ensures legal { OnOk result (IsLegal self.new) }
     {
         if self.transfer.second.is_some() {
             return Err(Refusal::TwoLegsAlready);

@@ -29,7 +29,7 @@ impl<T> Model for Fifo<T> {
 }
 
 impl<T: Copy> Fifo<T> {
-    ghost use Rattle.std.specs.Prelude.{◌≡◌, [], slice_get};
+    ghost use Rattle.std.specs.Prelude.{◌≡◌, ◌≤◌, [], length, slice_get};
     ghost use Rattle.transfer.specs.Fifo.{fifo_answer_to_fill};
     ghost use Rattle.transfer.specs.Refusal.{answer};
 
@@ -60,7 +60,8 @@ impl<T: Copy> Fifo<T> {
 
     /// The items that are left, the first one first.
     pub fn left(&self) -> &[T]
-        ensures { result.now ≡ self.now }
+        ensures left { result.now ≡ self.now }
+        ensures few { length self.now ≤ most_items }
     {
         let listed = &self.slots[..self.count];
         &listed[self.place..]
@@ -68,14 +69,16 @@ impl<T: Copy> Fifo<T> {
 
     /// The first of the items that are left.
     pub fn first(&self) -> Option<T>
-        ensures { result ≡ slice_get self.now 0 }
+        ensures first { result ≡ slice_get self.now 0 }
+        ensures few { length self.now ≤ most_items }
     {
         self.left().first().copied()
     }
 
     /// Goes on to the next item, if one is left.
     pub fn advance(&mut self)
-        ensures { self.new ≡ drop 1 self.old }
+        ensures left { self.new ≡ drop 1 self.old }
+        ensures few { length self.new ≤ most_items }
     {
         self.place = (self.place + 1).min(self.count);
     }

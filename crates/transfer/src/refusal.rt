@@ -7,22 +7,22 @@ use std::fmt;
 #[derive(Clone, Copy, PartialEq, Eq, Debug)]
 pub enum Refusal {
     /// An address is below 8 or above 119.
-    AddressOutOfRange = 1,
+    AddressOutOfRange,
     /// A count of a clock pair is below 1 or above 255 ticks.
-    ClockOutOfRange = 2,
+    ClockOutOfRange,
     /// The draft has two legs.
-    TwoLegsAlready = 3,
+    TwoLegsAlready,
     /// A write has more than 16 bytes, a read has none or more than 16, or a list has more than 8
     /// items.
-    LengthOutOfRange = 4,
+    LengthOutOfRange,
     /// The bus has no master of this number.
-    NoSuchMaster = 5,
+    NoSuchMaster,
     /// The master is armed, so that an outcome is still to come.
-    ArmedAlready = 6,
+    ArmedAlready,
     /// The host of the master wants no transfer.
-    NothingWanted = 7,
+    NothingWanted,
     /// A run is asked for more than 1,000,000 ticks.
-    TooManyTicks = 8,
+    TooManyTicks,
 }
 
 impl Refusal {
@@ -33,7 +33,7 @@ impl Refusal {
     pub fn number(self) -> u8
         ensures { result ≡ number self }
     {
-        self as u8
+        self as u8 + 1
     }
 
     /// What was refused, in words, with the limit where there is one. All lengths have one message.

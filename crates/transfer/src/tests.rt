@@ -1,5 +1,49 @@
-// No contract says that printing succeeds.
-use crate::{BytePlace, LegPlace, Outcome, OutcomeKind, ReadBytes, Refusal, WriteBytes};
+// No contract says that printing succeeds, nor what a caller finds out by itself.
+ghost use Rattle.std.specs.Prelude.{◌≤◌};
+ghost use Rattle.transfer.specs.Limits.{most_items};
+
+use crate::{BytePlace, Fifo, LegPlace, Outcome, OutcomeKind, ReadBytes, Refusal, WriteBytes};
+
+// A caller knows of any list that it is short.
+fn items_left(list: &Fifo<u8>) -> usize
+    ensures { result ≤ most_items }
+{
+    list.left().len()
+}
+
+#[test]
+fn a_list_is_short(rt: HostRuntime) {
+    let mut list = Fifo::new(0);
+    assert!(rt; list.fill(&[1, 2, 3]).is_ok());
+    list.advance();
+    assert_eq!(rt; items_left(&list), 2);
+}
+
+// No proof is asked for where the bytes are spelled out.
+fn spelled_out(byte: u8) -> (ReadBytes, WriteBytes) {
+    let read = ReadBytes {
+        bytes: [byte; 32],
+        len: 3,
+    };
+    let write = WriteBytes {
+        bytes: [byte; 16],
+        len: 16,
+    };
+    (read, write)
+}
+
+#[test]
+fn bytes_are_made_of_an_array(rt: HostRuntime) {
+    let (read, write) = spelled_out(0xA5);
+    assert_eq!(rt; read.as_slice().len(), 3);
+    assert_eq!(rt; write.last_or_zero(), 0xA5);
+}
+
+#[test]
+fn a_cast_of_a_refusal_is_its_place(rt: HostRuntime) {
+    assert_eq!(rt; Refusal::AddressOutOfRange as u8, 0);
+    assert_eq!(rt; Refusal::TooManyTicks as u8, 7);
+}
 
 #[test]
 fn an_outcome_prints_what_came_of_a_transfer(rt: HostRuntime) {

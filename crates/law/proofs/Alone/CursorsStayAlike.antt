@@ -11,7 +11,7 @@ use Rattle.master.specs.Cursor.{is_write, master_sends, leg_size, symbol_in_leg,
 use Rattle.master.specs.Script.{transfers}
 use Rattle.law.proofs.Machine.Game.{Laws}
 use Rattle.law.proofs.FarSide.{ends}
-use Rattle.law.specs.Legal.{IsLegalLeg, IsLegalSecond, IsLegal}
+use Rattle.transfer.specs.Legal.{IsLegalLeg, IsLegalSecond, IsLegal}
 use Rattle.law.proofs.Alone.CursorByParts.{leaves, goes_on, moves, next_is}
 use Rattle.law.proofs.Alone.SlotsRunOut.{slots_left, some_left, fewer}
 

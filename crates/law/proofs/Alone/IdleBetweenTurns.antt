@@ -10,7 +10,7 @@ use Rattle.master.specs.Script.{transfers}
 use Rattle.law.proofs.FarSide.{last, QuietFor}
 use Rattle.law.proofs.Alone.StepsOfBanks.{none_each}
 use Rattle.law.proofs.Alone.PlayedIsCarried.{carried_alone, agrees}
-use Rattle.law.specs.Legal.{IsLegal}
+use Rattle.transfer.specs.Legal.{IsLegal}
 use Rattle.law.proofs.Alone.PortsAsSide.{pulling, ports_side, idle_port, idle_ports}
 use Rattle.law.proofs.Alone.SlotsRunOut.{slots_left}
 

@@ -26,7 +26,7 @@ use Rattle.port.specs.Port.{PortModel}
 use Rattle.master.specs.Script.{transfers}
 use Rattle.master.specs.Symbol.{bit_symbol}
 use Rattle.transfer.specs.Leg.{write_leg, read_leg}
-use Rattle.law.specs.Legal.{IsLegalBody, IsLegalLeg}
+use Rattle.transfer.specs.Legal.{IsLegalBody, IsLegalLeg}
 use Rattle.law.proofs.Alone.PortsWithinByte.{addressing_at, writing_at, acknowledging_at, reading_at, out_at}
 use Rattle.law.proofs.Alone.PortsWithinByte.{joined_byte, reading_pulls, called_for, put_to_all, address_more}
 use Rattle.law.proofs.Alone.PortsWithinByte.{address_full, write_more, write_full, read_more, write_on, read_none}

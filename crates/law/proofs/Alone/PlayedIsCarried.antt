@@ -14,7 +14,7 @@ use Rattle.master.specs.Cursor.{cursor_at, new_cursor, outcome_of}
 use Rattle.port.specs.Port.{PortModel}
 use Rattle.master.specs.Script.{transfers}
 use Rattle.law.specs.Letter.{Letter, stop, restart, bit_letter}
-use Rattle.law.specs.Legal.{IsLegalLeg, IsLegalSecond, IsLegal}
+use Rattle.transfer.specs.Legal.{IsLegalLeg, IsLegalSecond, IsLegal}
 use Rattle.law.proofs.FarSide.{string, last, final, QuietFor}
 use Rattle.law.proofs.Alone.LegBitByBit.{notes, closing, leg_plays}
 use Rattle.law.proofs.Alone.PortsWithinByte.{addressing_at, Rests, opened_is}

@@ -8,7 +8,7 @@ use Rattle.transfer.specs.declared.leg.Leg.{Leg}
 use Rattle.transfer.specs.Transfer.{transfer_model}
 use Rattle.transfer.specs.Leg.{body_model, leg_model}
 use Rattle.transfer.specs.Octets.{IsOctets}
-use Rattle.law.specs.Legal.{IsLegalBody, IsLegalLeg, IsLegalSecond, IsLegal}
+use Rattle.transfer.specs.Legal.{IsLegalBody, IsLegalLeg, IsLegalSecond, IsLegal}
 
 octets_take : (n : ℕ) (xs : List ℕ) → IsOctets xs → IsOctets (take n xs)
 octets_take zero xs h k = omega arith
@@ -17,7 +17,7 @@ octets_take (suc n) (x ∷ xs) h zero = h 0
 octets_take (suc n) (x ∷ xs) h (suc k) = octets_take n xs (λ j. h (suc j)) k
 
 legal_body : (b : Body) → IsLegalBody (body_model b)
-legal_body (Write w) = (octets_take w.len w.bytes w.octets, simp length-take (omega arith))
+legal_body (Write w) = (octets_take w.len w.bytes (w.octets (omega arith)), simp length-take (omega arith))
 legal_body (Read r) = (r.some, r.fits)
 
 legal_leg : (g : Leg) → IsLegalLeg (leg_model g)

@@ -5,7 +5,7 @@ use Rattle.transfer.specs.Leg.{LegModel}
 use Rattle.master.specs.Cursor.{Play, at_end, at_restart, in_leg, CursorModel}
 use Rattle.master.specs.Cursor.{leg_size, symbol_of, cursor_next, new_cursor}
 use Rattle.law.proofs.FarSide.{ends}
-use Rattle.law.specs.Legal.{IsLegal}
+use Rattle.transfer.specs.Legal.{IsLegal}
 use Rattle.law.specs.Limits.{bits_of_byte, letters_of_byte, most_letters}
 
 -- a repeated start, a leg and the stop

@@ -18,7 +18,7 @@ use Rattle.law.specs.Letter.{Letter, stop, restart, rank, bit_letter, first_or_s
 use Rattle.law.proofs.FarSide.{Side, ends, heard, after, string}
 use Rattle.law.proofs.Alone.CursorsStayAlike.{open_alike}
 use Rattle.law.proofs.Alone.PlayedIsCarried.{opened_ports, agrees}
-use Rattle.law.specs.Legal.{IsLegal}
+use Rattle.transfer.specs.Legal.{IsLegal}
 use Rattle.law.specs.Limits.{most_letters}
 use Rattle.law.specs.Facts.{WithoutStop, OneStop, IsParting, IsBit, ZeroAgainstOne}
 use Rattle.law.specs.Facts.{condition, SameConditions, StringLaws}

@@ -16,7 +16,7 @@ use Rattle.master.specs.Script.{Script, transfers}
 use Rattle.law.specs.Bank.{Bank, bank_map, bank_list}
 use Rattle.law.specs.BusModel.{all_pulls}
 use Rattle.law.specs.TransferResult.{AddressedDevice, transfer_result}
-use Rattle.law.specs.Legal.{IsLegal}
+use Rattle.transfer.specs.Legal.{IsLegal}
 use Rattle.law.specs.Use.{addressed_device}
 use Rattle.law.proofs.FarSide.{Side, ends, letter, heard, after, string, last, final}
 use Rattle.law.proofs.Alone.StepsOfBanks.{any}

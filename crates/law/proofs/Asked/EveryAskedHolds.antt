@@ -25,7 +25,7 @@ use Rattle.law.specs.Book.{opened, book_told, book_after}
 use Rattle.law.specs.BusModel.{no_holds, levels_at, told_at, ClocksInRange}
 use Rattle.law.specs.TransferResult.{AddressedDevice, TransferResult, transfer_result}
 use Rattle.transfer.specs.Leg.{read_leg}
-use Rattle.law.specs.Legal.{IsLegal}
+use Rattle.transfer.specs.Legal.{IsLegal}
 use Rattle.law.specs.Letter.{Letter, zero as low, one}
 use Rattle.law.specs.Monitor.{monitor_after_event, marked_after}
 use Rattle.law.specs.Use.{Use, lists_appended, event_at, marks_of, monitor_with_event, steps_then, use_after_tick, use_after}

@@ -19,7 +19,7 @@ use Rattle.law.specs.TransferResult.{AddressedDevice, DeviceInLeg, device_after_
 use Rattle.law.specs.TransferResult.{device_with_answer, device_after_put, device_after_take, any_in}
 use Rattle.law.specs.Facts.{devices_after_puts}
 use Rattle.transfer.specs.Leg.{write_leg, read_leg}
-use Rattle.law.specs.Legal.{IsLegal}
+use Rattle.transfer.specs.Legal.{IsLegal}
 use Rattle.law.specs.Letter.{zero as low, one}
 use Rattle.law.proofs.FarSide.{string, last}
 use Rattle.law.proofs.Asked.SomebodyInAfterA.{in_leg_after, HasAnswered, low_carried, answered}

@@ -21,7 +21,7 @@ use Rattle.law.specs.TransferResult.{byte_levels, LegResult, leg_end, any_in, wr
 use Rattle.law.specs.TransferResult.{leg_result, result_after_leg, transfer_result}
 use Rattle.law.specs.Facts.{devices_after_puts}
 use Rattle.transfer.specs.Leg.{write_leg}
-use Rattle.law.specs.Legal.{IsLegalBody, IsLegalLeg, IsLegalSecond, IsLegal}
+use Rattle.transfer.specs.Legal.{IsLegalBody, IsLegalLeg, IsLegalSecond, IsLegal}
 use Rattle.law.specs.Letter.{Letter, zero as low, stop, restart, one, bit_letter}
 use Rattle.law.proofs.FarSide.{Side, ends as ends_with, heard, after, string, last}
 use Rattle.law.proofs.Alone.ByteLawsHold.{took, ninth, later, nine}

@@ -17,7 +17,7 @@ use Rattle.law.specs.Bank.{Bank, bank_list}
 use Rattle.law.specs.Book.{Entry, outcome_if_least, outcomes_of_turn, told_at_stop, book_told, Turn, closed, opened}
 use Rattle.law.specs.Book.{Book, least_result, devices_after, contender_results, book_after_stop, book_after}
 use Rattle.law.specs.TransferResult.{AddressedDevice, TransferResult, transfer_result}
-use Rattle.law.specs.Legal.{IsLegal}
+use Rattle.transfer.specs.Legal.{IsLegal}
 use Rattle.law.specs.Letter.{Letter, zero as low, stop, restart, one, same_string}
 use Rattle.law.proofs.FarSide.{Side, ends, letter, heard, after, string, last}
 use Rattle.law.proofs.Alone.PlayedIsCarried.{opened_ports, carried_alone}

@@ -10,7 +10,7 @@ use Rattle.master.specs.Script.{transfers}
 use Rattle.port.specs.Port.{reset_port, PortModel}
 use Rattle.law.specs.Use.{Call, Use, use_after, new_entry, addressed_device, new_use}
 use Rattle.law.specs.Law.{EveryUse}
-use Rattle.law.specs.Legal.{IsLegal}
+use Rattle.transfer.specs.Legal.{IsLegal}
 use Rattle.law.specs.Limits.{ticks_of_turn}
 use Rattle.law.proofs.Alone.IdleBetweenTurns.{Idle}
 use Rattle.law.proofs.Alone.PortsAsSide.{unheld, ports_side, idle_ports}

@@ -10,7 +10,7 @@ use Rattle.law.specs.Bank.{Bank, bank_list}
 use Rattle.master.specs.Script.{transfers}
 use Rattle.law.proofs.Alone.CursorsStayAlike.{open_alike}
 use Rattle.law.proofs.Alone.IdleBetweenTurns.{Idle, idle_pulls_nothing, quiet_from_idle, idle_at_last}
-use Rattle.law.specs.Legal.{IsLegal}
+use Rattle.transfer.specs.Legal.{IsLegal}
 use Rattle.law.proofs.Alone.SealedIsLegal.{legal_transfer}
 use Rattle.law.proofs.Alone.SlotsRunOut.{slots_left, at_most}
 use Rattle.law.proofs.Machine.Arbitration.{at}

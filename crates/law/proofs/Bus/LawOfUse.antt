@@ -24,7 +24,7 @@ use Rattle.master.specs.Mark.{is_told}
 use Rattle.master.specs.Script.{transfers}
 use Rattle.law.specs.Letter.{first_or_same}
 use Rattle.wire.specs.Wire.{signal}
-use Rattle.law.specs.Legal.{IsLegal}
+use Rattle.transfer.specs.Legal.{IsLegal}
 use Rattle.law.specs.Limits.{most_ticks, most_ticks_of_turn}
 use Rattle.law.proofs.Alone.PortsAsSide.{ports_side}
 use Rattle.law.proofs.Machine.BusAsMachine.{verdicts}

@@ -11,7 +11,7 @@ use Rattle.law.specs.TransferResult.{AddressedDevice, TransferResult, transfer_r
 use Rattle.port.specs.Port.{PortModel}
 use Rattle.law.specs.Letter.{Letter, same_string, first_or_same}
 use Rattle.law.proofs.Alone.PlayedIsCarried.{opened_ports, agrees}
-use Rattle.law.specs.Legal.{IsLegal}
+use Rattle.transfer.specs.Legal.{IsLegal}
 use Rattle.law.proofs.Alone.PortsAsSide.{idle_ports}
 use Rattle.law.proofs.Machine.Arbitration.{at}
 use Rattle.law.proofs.Machine.BookOfMachine.{task_string, task_outcome, task_side, pick, leader, wins, outcomes, leader_side}

@@ -17,7 +17,7 @@ use Rattle.wire.specs.Wire.{signal}
 use Rattle.law.specs.Bank.{Bank, bank_map, bank_list}
 use Rattle.law.specs.Book.{book_arm, book_told}
 use Rattle.law.specs.BusModel.{arm_master_at, arm_at, HoldAnswers, BusModel, levels_at, told_at}
-use Rattle.law.specs.Legal.{IsLegal}
+use Rattle.transfer.specs.Legal.{IsLegal}
 use Rattle.law.specs.Limits.{ticks_of_turn}
 use Rattle.law.specs.Monitor.{Monitor, monitor_after_marks}
 use Rattle.law.specs.Use.{Call, arms, Use, event_at, marks_of, monitor_with_event, use_after_tick, use_after_call}

@@ -33,7 +33,7 @@ returns c =
       c.seal-2.result,
       refl,
       exhibits c.seal.result c.seal-2.result
-          (restarted c.seal.result _ _ _ _ _ c.new-restarted.ensures c.in_ok-write.ensures
-          c.in_ok-second_leg.ensures c.in_ok-read.ensures c.seal.ensures address)
-          (high c.seal-2.result _ _ _ c.new-high.ensures c.in_ok-write-2.ensures c.seal-2.ensures address),
+          (restarted c.seal.result _ _ _ _ _ c.new-restarted.ensures.made c.in_ok-write.ensures.answered
+          c.in_ok-second_leg.ensures.answered c.in_ok-read.ensures.answered c.seal.ensures address)
+          (high c.seal-2.result _ _ _ c.new-high.ensures.made c.in_ok-write-2.ensures.answered c.seal-2.ensures address),
     )

@@ -2,8 +2,8 @@ use Rattle.std.proofs.Common.{◌≡◌, ◌+◌, length, take, drop, min, sym, 
 use Rattle.std.proofs.lemmas.List.{drop_min}
 use Rattle.transfer.proofs.fifo.Fifo.advance.Goals as goal
 
-pub returns : goal.returns
-returns g c =
+pub returns-clause-left : goal.returns-clause-left
+returns-clause-left g c =
     let f = c.self.inside in
     let ts = take f.count f.slots in
     let long : length ts ≡ f.count = simp length-take (omega (arith, c.self.invariant)) in
