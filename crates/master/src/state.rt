@@ -32,11 +32,12 @@ pub struct MasterState {
 }
 
 impl MasterState {
-    ghost use Rattle.std.specs.Prelude.{◌≡◌, true};
+    ghost use Rattle.std.specs.Prelude.{◌≡◌, Bool, true, Option};
     ghost use Rattle.master.specs.declared.mark.Mark.TheVariants.{Quiet, Told, Lost};
     ghost use Rattle.master.specs.Master.{mark_of, meaning_after};
-    ghost use Rattle.master.specs.MasterState.{master_model, new_master, master_step, contending_step, losing_step, with_stage};
+    ghost use Rattle.master.specs.MasterState.{master_model, new_master, master_step, stage_step, contending_step, losing_step, with_stage};
     ghost use Rattle.master.specs.Symbol.{pulls_sda};
+    ghost use Rattle.wire.specs.declared.event.Event.TheVariants.{Stop};
     ghost use Rattle.master.specs.Script.{transfers};
     ghost use Rattle.transfer.specs.Outcome.{outcome_model};
 
@@ -52,7 +53,7 @@ impl MasterState {
         }
     }
 
-    // One tick. Its host is told here: an outcome that was handed up would cost each tick the room for one.
+    // One tick; its host is told in it.
     pub(crate) fn step<H: Host>(&mut self, signal: Signal, host: &mut H) -> Mark
         ensures after { master_model self.new ≡
             (master_step transfers (master_model self.old) signal).0 }
@@ -101,10 +102,7 @@ impl MasterState {
             (Event::Start, Stage::Sending(Symbol::One, _)) => self.lose(),
             (Event::Start, Stage::StartPending(_) | Stage::Sending(..))
             | (Event::Rise(_), Stage::StartPending(_)) => self.count_high(),
-            (Event::Stop, Stage::StopPending(cursor)) => {
-                let outcome = cursor.outcome();
-                self.tell(outcome, host)
-            }
+            (Event::Stop, _) => self.stop(host),
             (_, Stage::StopPending(_)) => self.lose(),
             _ => Mark::Quiet,
         }
@@ -162,6 +160,26 @@ impl MasterState {
         self.count = 0;
         self.pulls = Pulls::none();
         Mark::Lost
+    }
+
+    // At a stop a master that waits for it tells its host. Not inlined, so that other ticks make no room for an outcome.
+    #[inline(never)]
+    fn stop<H: Host>(&mut self, host: &mut H) -> Mark
+        ensures after { (bit : Option Bool) (free : Bool) → master_model self.new ≡
+            (stage_step transfers (master_model self.old) (master_model self.old).stage Stop bit free).0 }
+        ensures mark { (bit : Option Bool) (free : Bool) → result ≡ mark_of
+            (stage_step transfers (master_model self.old) (master_model self.old).stage Stop bit free).1 }
+        ensures host { (bit : Option Bool) (free : Bool) → H.Host.meaning host.new ≡
+            meaning_after H.Host.behaviour (H.Host.meaning host.old)
+            (stage_step transfers (master_model self.old) (master_model self.old).stage Stop bit free).1 }
+    {
+        match &self.stage {
+            Stage::StopPending(cursor) => {
+                let outcome = cursor.outcome();
+                self.tell(outcome, host)
+            }
+            Stage::Idle | Stage::StartPending(_) | Stage::Sending(..) => Mark::Quiet,
+        }
     }
 
     // Once its host is told a master is as a new one.
