@@ -123,7 +123,7 @@ impl Model for Draft {
 }
 
 impl Draft {
-    ghost use Rattle.std.specs.Prelude.{◌≡◌, OnOk};
+    ghost use Rattle.std.specs.Prelude.{◌≡◌};
     ghost use Rattle.transfer.specs.Leg.{body_model};
     ghost use Rattle.transfer.specs.Legal.{IsLegal};
     ghost use Rattle.transfer.specs.Refusal.{answer};
@@ -157,8 +157,10 @@ impl Draft {
     /// The last leg becomes a write of these bytes, 0 to [`MOST_BYTES`] of them.
     pub fn write(&mut self, bytes: &[u8]) -> Result<(), Refusal>
         ensures answered { (answer (λ u. u) result, self.new) ≡ answer_to_write bytes.now self.old }
-        ensures legal { OnOk result (IsLegal self.new) }
+        ensures legal { IsLegal self.new }
     {
+        // looked at here, so that a refused draft is known to be legal too
+        let _before = &self.transfer;
         if bytes.len() > MOST_BYTES {
             return Err(Refusal::LengthOutOfRange);
         }
@@ -169,8 +171,9 @@ impl Draft {
     /// The last leg becomes a read of `count` bytes, 1 to [`MOST_BYTES`].
     pub fn read(&mut self, count: u32) -> Result<(), Refusal>
         ensures answered { (answer (λ u. u) result, self.new) ≡ answer_to_read count self.old }
-        ensures legal { OnOk result (IsLegal self.new) }
+        ensures legal { IsLegal self.new }
     {
+        let _before = &self.transfer;
         if !(1..=MOST_BYTES as u32).contains(&count) {
             return Err(Refusal::LengthOutOfRange);
         }
@@ -181,7 +184,7 @@ impl Draft {
     /// A second leg, an empty write to the address; it is then the last.
     pub fn second_leg(&mut self, address: Address) -> Result<(), Refusal>
         ensures answered { (answer (λ u. u) result, self.new) ≡ answer_to_second_leg address.number self.old }
-        ensures legal { OnOk result (IsLegal self.new) }
+        ensures legal { IsLegal self.new }
     {
         if self.transfer.second.is_some() {
             return Err(Refusal::TwoLegsAlready);

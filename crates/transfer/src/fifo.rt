@@ -47,8 +47,11 @@ impl<T: Copy> Fifo<T> {
     /// Starts a new list, in the place of what is left of the old. One that is too long is refused,
     /// and changes nothing.
     pub fn fill(&mut self, items: &[T]) -> Result<(), Refusal>
-        ensures { (answer (λ u. u) result, self.new) ≡ fifo_answer_to_fill items.now self.old }
+        ensures filled { (answer (λ u. u) result, self.new) ≡ fifo_answer_to_fill items.now self.old }
+        ensures few { length self.new ≤ most_items }
     {
+        // looked at here, so that a refused list is known to be short too
+        let _before = self.left();
         if items.len() > MOST_ITEMS {
             return Err(Refusal::LengthOutOfRange);
         }
